@@ -1,0 +1,62 @@
+-- Document 01, "Printing".
+-- Assumes nothing.
+use Prim.Native.Nat.{ℕ, _+_, _-_}
+use mathlib.Core.Bool.{Bool, false, _&&_}
+use mathlib.Core.List.{List, [], _∷_}
+use lib.ListN.{set}
+use lib.Dec.{ltb, eqb}
+use Rattle.grid.specs.Choice.{if_then_else_}
+use Rattle.grid.specs.Screen.{Screen, at, withRows, moveTo, rowAt, putCell, setFlag, scrolled, editable, blankRow, printable, isEmpty, trim}
+use Rattle.line.specs.Line.{flagged, rowText}
+
+-- rows 1 to E - 1 move up with their flags, and row E - 1 is blank
+unfoldable pub scroll : Screen → Screen
+scroll s = withRows s (scrolled (s .rows) (editable (s .head .keys)) (blankRow (s .head .width) (s .head .attr)))
+
+-- the next row's column 0, scrolling on row E - 1
+unfoldable pub nextRow : Screen → Screen
+nextRow s =
+    let r = s .head .cursor .row in
+    if ltb (r + 1) (editable (s .head .keys)) then moveTo s (at (r + 1) 0) else moveTo (scroll s) (at r 0)
+
+-- the row holds only spaces
+unfoldable pub rowIsBlank : Screen → ℕ → Bool
+rowIsBlank s r = isEmpty (trim (rowText s r))
+
+-- in column 0 of a blank row, below a flagged one, only the flag above is cleared
+unfoldable pub newline : Screen → Screen
+newline s =
+    let r = s .head .cursor .row in
+    if eqb (s .head .cursor .col) 0 && (ltb 0 r && (flagged (s .rows) (r - 1) && rowIsBlank s r))
+    then withRows s (setFlag (s .rows) (r - 1) 0)
+    else nextRow s
+
+-- a character at the cursor
+unfoldable pub writeCell : Screen → ℕ → Screen
+writeCell s ch =
+    let r = s .head .cursor .row in
+    withRows s (set (s .rows) r (putCell (s .head .cursor .col) ch (s .head .attr) (rowAt (s .rows) r)))
+
+-- writing column W - 1 flags the row and goes to the next
+unfoldable pub putChar : Screen → ℕ → Screen
+putChar s ch =
+    let r = s .head .cursor .row in
+    let c = s .head .cursor .col in
+    let t = writeCell s ch in
+    if ltb (c + 1) (s .head .width) then moveTo t (at r (c + 1)) else nextRow (withRows t (setFlag (t .rows) r 1))
+
+-- one byte; cr says that the byte before it was 13
+unfoldable pub printByte : Bool → Screen → ℕ → Screen
+printByte cr s b =
+    if eqb b 13 then newline s
+    else if eqb b 10 then (if cr then s else newline s)
+    else if printable b then putChar s b
+    else s
+
+unfoldable pub print : Bool → Screen → List ℕ → Screen
+print cr s [] = s
+print cr s (b ∷ bs) = print (eqb b 13) (printByte cr s b) bs
+
+-- no byte stands before the first of a call
+abbrev pub printBytes : Screen → List ℕ → Screen
+printBytes s bs = print false s bs

@@ -1,0 +1,225 @@
+-- A state's bytes are read back as that state, and pass the test of the layout.
+-- Assumes nothing.
+use Prim.Native.Nat.{ℕ, zero, suc, _+_, _*_, _/_, _%_, _≤_, _<_}
+use mathlib.Core.Path.{_≡_, refl, sym, ap, _∙_}
+use mathlib.Core.Bool.{true}
+use mathlib.Core.List.{List, [], _∷_, _++_}
+use mathlib.Core.Logic.{⊎-elim}
+use native.Mathlib.Nat.{div-add-mod', le-of-suc-le-suc, not-suc-le-zero, eq-or-lt-of-le}
+use native.Mathlib.Numerals.{add-one}
+use native.Mathlib.Omega.{arith}
+use lib.ListN.{length, getD, take, drop, length-append, length-drop, List·getD-append}
+use lib.Seq.{take-at, getD-at, take-append-le, drop-append-le, drop-append-add, getD-append-add, ext-getD}
+use lib.Pow.{shr-shr}
+use borrow.Author.Tests.{lt-ltb, ltb-true}
+use Rattle.grid.specs.Layout.{SIZE, WIDTH, CURSOR_ROW, CURSOR_COL, INSERT, KEYS_ON, ATTR, SERIAL, TOUCHED, FLAGS, CHARS, ATTRS, MASKS}
+use Rattle.grid.specs.declared.attr.Attr.{Attr}
+use Rattle.grid.specs.declared.head.Head.{Head}
+use Rattle.grid.specs.Screen.{Row, State, noRow, rowAt, every, validRow, validScreen}
+use Rattle.grid.specs.Record.{number4, fourAt, window, tabulate, rowOf, rowsOf, headOf, serialOf, touchedOf, screenOf, readState, flagBytes, blocks, charBytes, attrBytes, rowsBytes, frontBytes, stateBytes, frontb, validb}
+use Rattle.grid.specs.Facts.{isByte, RowFacts, RowsFacts, ScreenFacts, StateFacts, Valid}
+use Rattle.grid.proofs.Bools.{and-left, and-right, tests, every-at}
+use Rattle.grid.proofs.Nibbles.{attr-back, byte-back}
+use Rattle.grid.proofs.Record.{rows-bytes, heads-eq}
+use Rattle.grid.proofs.Validity.{row-facts, screen-facts}
+
+-- ---- numbers of four bytes
+
+-- omega reads one quotient at a time
+sum4 : (n x y z a b c : ℕ) → x * 256 + a ≡ n → y * 256 + b ≡ x → z * 256 + c ≡ y → z * 16777216 + c * 65536 + b * 256 + a ≡ n
+sum4 n x y z a b c p q r = omega arith
+
+pub whole4 : (n : ℕ) → n < 4294967296 → n / 16777216 % 256 * 16777216 + n / 65536 % 256 * 65536 + n / 256 % 256 * 256 + n % 256 ≡ n
+whole4 n h =
+    let d : n / 256 / 256 ≡ n / 65536 = shr-shr n 8 8 in
+    let e : n / 65536 / 256 ≡ n / 16777216 = shr-shr n 16 8 in
+    let t : n / 16777216 % 256 ≡ n / 16777216 = omega arith in
+    rw t
+    (sum4 n (n / 256) (n / 65536) (n / 16777216) _ _ _ (div-add-mod' n 256) (rw d at (div-add-mod' (n / 256) 256))
+    (rw e at (div-add-mod' (n / 65536) 256)))
+
+-- the same head with another attribute
+abbrev withAttr : Head → Attr → Head
+withAttr h a = record { width = h .width; cursor = h .cursor; insert = h .insert; keys = h .keys; attr = a }
+
+-- ---- the rows' bytes
+
+length-flags : (rows : List Row) → length (flagBytes rows) ≡ length rows
+unfolding flagBytes
+length-flags [] = refl
+length-flags (x ∷ xs) = ap suc (length-flags xs)
+
+flags-at : (rows : List Row) (r : ℕ) → r < length rows → getD (flagBytes rows) r 0 ≡ rowAt rows r .flag
+unfolding flagBytes rowAt
+flags-at [] r h = absurd (omega arith)
+flags-at (x ∷ xs) zero h = refl
+flags-at (x ∷ xs) (suc r) h = flags-at xs r (omega arith)
+
+-- a part of 80 bytes of each row
+module _ (part : Row → List ℕ) (w : ℕ) (part80 : (x : Row) → RowFacts w x → length (part x) ≡ 80) where
+  length-blocks : (rows : List Row) → every (validRow w) rows ≡ true → length (blocks part rows) ≡ 80 * length rows
+  unfolding blocks every
+  length-blocks [] v = omega arith
+  length-blocks (x ∷ xs) v =
+      let e = part80 x (row-facts w x (and-left (validRow w x) _ v)) in
+      let ih = length-blocks xs (and-right (validRow w x) _ v) in
+      simp length-append (omega arith)
+
+  blocks-at : (rows : List Row) (r : ℕ) → every (validRow w) rows ≡ true → r < length rows
+      → take 80 (drop (80 * r) (blocks part rows)) ≡ part (rowAt rows r)
+  unfolding blocks every rowAt
+  blocks-at [] r v h = absurd (omega arith)
+  blocks-at (x ∷ xs) zero v h = take-at (part x) (blocks part xs) 80 (part80 x (row-facts w x (and-left (validRow w x) _ v)))
+  blocks-at (x ∷ xs) (suc r) v h =
+      let e = part80 x (row-facts w x (and-left (validRow w x) _ v)) in
+      let k : 80 * suc r ≡ length (part x) + 80 * r = omega arith in
+      rw k
+      (ap (take 80) (drop-append-add (part x) (blocks part xs) (80 * r)) ∙ blocks-at xs r (and-right (validRow w x) _ v) (omega arith))
+
+-- n bytes from a on, in what follows p
+window-after : (p q : List ℕ) (i a n : ℕ) → i ≡ length p + a → take n (drop i (p ++ q)) ≡ take n (drop a q)
+window-after p q i a n e = rw e (ap (take n) (drop-append-add p q a))
+
+-- n bytes from a on, in what stands before q
+window-before : (p q : List ℕ) (a n : ℕ) → a + n ≤ length p → take n (drop a (p ++ q)) ≡ take n (drop a p)
+window-before p q a n h =
+    let l : n ≤ length (drop a p) = simp length-drop (omega arith) in
+    ap (take n) (drop-append-le a p q (omega arith)) ∙ take-append-le n (drop a p) q l
+
+module _ (front : List ℕ) (w : ℕ) (rows : List Row) (size : length front ≡ FLAGS) (f : RowsFacts w 25 rows) where
+  cs : List ℕ
+  cs = charBytes rows
+
+  as′ : List ℕ
+  as′ = attrBytes rows
+
+  length-cs : length cs ≡ 2000
+  unfolding cs
+  length-cs = omega (arith, length-blocks (λ (x : Row). x .chars) w (λ x p. p .chars80) rows (f .valid), f .count)
+
+  length-as : length as′ ≡ 2000
+  unfolding as′
+  length-as = omega (arith, length-blocks (λ (x : Row). x .attrs) w (λ x p. p .attrs80) rows (f .valid), f .count)
+
+  pub length-rows-bytes : length (rowsBytes rows) ≡ 4025
+  unfolding rowsBytes cs as′
+  length-rows-bytes = simp length-append (omega (arith, length-flags rows, length-cs, length-as, f .count))
+
+  row-back : (r : ℕ) → r < 25 → rowOf (front ++ rowsBytes rows) r ≡ rowAt rows r
+  unfolding rowOf rowsBytes window cs as′
+  row-back r h =
+      let n : length (flagBytes rows) ≡ 25 = length-flags rows ∙ f .count in
+      let c = length-cs in
+      let a = length-as in
+      let rest : List ℕ = flagBytes rows ++ (charBytes rows ++ attrBytes rows) in
+      let flag : getD (front ++ rest) (FLAGS + r) 0 ≡ rowAt rows r .flag =
+      ap (λ (k : ℕ). getD (front ++ rest) (k + r) 0) (sym size) ∙ getD-append-add front rest r 0
+      ∙ List·getD-append (flagBytes rows) _ 0 r (omega arith) ∙ flags-at rows r (omega (arith, f .count)) in
+      let chars : take 80 (drop (CHARS + 80 * r) (front ++ rest)) ≡ rowAt rows r .chars =
+      window-after front rest (CHARS + 80 * r) (25 + 80 * r) 80 (omega arith) ∙ window-after (flagBytes rows) _ (25 + 80 * r) (80 * r) 80 (omega arith)
+      ∙ window-before cs as′ (80 * r) 80 (omega arith)
+      ∙ blocks-at (λ (x : Row). x .chars) w (λ x p. p .chars80) rows r (f .valid) (omega (arith, f .count)) in
+      let attrs : take 80 (drop (ATTRS + 80 * r) (front ++ rest)) ≡ rowAt rows r .attrs =
+      window-after front rest (ATTRS + 80 * r) (2025 + 80 * r) 80 (omega arith) ∙ window-after (flagBytes rows) _ (2025 + 80 * r) (2000 + 80 * r) 80 (omega arith)
+      ∙ window-after cs as′ (2000 + 80 * r) (80 * r) 80 (omega arith)
+      ∙ blocks-at (λ (x : Row). x .attrs) w (λ x p. p .attrs80) rows r (f .valid) (omega (arith, f .count)) in
+      λ i. record { flag = flag i; chars = chars i; attrs = attrs i }
+
+-- ---- a table of values
+
+module _ {ℓ} {A : Type ℓ} (g : ℕ → A) where
+  pub length-tabulate : (n : ℕ) → length (tabulate g n) ≡ n
+  unfolding tabulate
+  length-tabulate zero = refl
+  length-tabulate (suc n) = length-append (tabulate g n) (g n ∷ []) ∙ ap (λ (k : ℕ). k + 1) (length-tabulate n) ∙ add-one n
+
+  pub getD-tabulate : (n i : ℕ) (d : A) → i < n → getD (tabulate g n) i d ≡ g i
+  unfolding tabulate
+  getD-tabulate zero i d h = absurd (not-suc-le-zero h)
+  getD-tabulate (suc n) i d h =
+      ⊎-elim
+      (λ (e : i ≡ n). rw e (getD-at (tabulate g n) (g n) [] d n (length-tabulate n)))
+      (λ (lt : i < n). List·getD-append (tabulate g n) (g n ∷ []) d i (rw length-tabulate lt) ∙ getD-tabulate n i d lt)
+      (eq-or-lt-of-le (le-of-suc-le-suc h))
+
+pub rows-back : (front : List ℕ) (w : ℕ) (rows : List Row) → length front ≡ FLAGS → RowsFacts w 25 rows → rowsOf (front ++ rowsBytes rows) ≡ rows
+unfolding rowsOf rowAt
+rows-back front w rows size f =
+    let l : List ℕ = front ++ rowsBytes rows in
+    let n : length (tabulate (rowOf l) 25) ≡ 25 = length-tabulate (rowOf l) 25 in
+    ext-getD noRow (tabulate (rowOf l) 25) rows (n ∙ sym (f .count))
+    (λ r h.
+    let k : r < 25 = omega arith in
+    getD-tabulate (rowOf l) 25 r noRow k ∙ row-back front w rows size f r k)
+
+-- ---- the state
+
+module _ (t : State) (v : StateFacts t) where
+  facts : ScreenFacts (t .screen)
+  facts = screen-facts (t .screen) (v .screen)
+
+  pub state-back : readState (stateBytes t) ≡ t
+  unfolding readState stateBytes frontBytes headOf serialOf touchedOf
+  state-back =
+      let front = frontBytes (t .screen .head) (t .serial) (t .touched) in
+      let r = rows-back front _ (t .screen .rows) refl (facts .rows) in
+      let n = whole4 (t .serial) (v .serial) in
+      let m = whole4 (t .touched) (omega arith) in
+      let a = attr-back (t .screen .head .attr) (facts .head .foreground) (facts .head .background) in
+      λ i. record { screen = record { head = withAttr (t .screen .head) (a i); rows = r i }; serial = n i; touched = m i }
+
+  pub length-state : length (stateBytes t) ≡ SIZE
+  unfolding stateBytes frontBytes
+  length-state = omega (arith, length-rows-bytes (frontBytes (t .screen .head) (t .serial) (t .touched)) _ (t .screen .rows) refl (facts .rows))
+
+  pub serial-back : serialOf (stateBytes t) ≡ t .serial
+  unfolding serialOf stateBytes frontBytes
+  serial-back = whole4 (t .serial) (v .serial)
+
+  pub state-valid : validb (stateBytes t) ≡ true
+  unfolding validb frontb readState touchedOf
+  state-valid =
+      let l = length-state in
+      let m : touchedOf (stateBytes t) ≡ t .touched = ap (λ (x : State). x .touched) state-back in
+      let a = lt-ltb (touchedOf (stateBytes t)) MASKS (omega arith) in
+      let s : validScreen (screenOf (stateBytes t)) ≡ true = ap (λ (x : State). validScreen (x .screen)) state-back ∙ v .screen in
+      unfold stateBytes frontBytes in search tests depth 8
+
+-- ---- and the other way round: a valid record's bytes are those of the state that it holds
+
+pub isByte-lt : (l : List ℕ) (i : ℕ) → every isByte l ≡ true → i < length l → getD l i 0 < 256
+unfolding isByte
+isByte-lt l i b h = ltb-true _ _ (every-at isByte l i 0 b h)
+
+-- the four bytes of a number that four bytes make
+four-back : (a b c d : ℕ) → a < 256 → b < 256 → c < 256 → d < 256
+    → (number4 a b c d / 16777216 % 256 ≡ a) × (number4 a b c d / 65536 % 256 ≡ b) × (number4 a b c d / 256 % 256 ≡ c) × (number4 a b c d % 256 ≡ d)
+four-back a b c d ha hb hc hd =
+    let n : ℕ = number4 a b c d in
+    let e₁ : n / 256 ≡ a * 65536 + b * 256 + c = omega arith in
+    let e₂ : n / 65536 ≡ a * 256 + b = omega arith in
+    let e₃ : n / 16777216 ≡ a = omega arith in
+    (rw e₃ (omega arith), rw e₂ (omega arith), rw e₁ (omega arith), omega arith)
+
+module _ (l : List ℕ) (v : Valid l) (b : every isByte l ≡ true) where
+  byte-at : (i : ℕ) → i < SIZE → getD l i 0 < 256
+  byte-at i h = isByte-lt l i b (omega (arith, v .size))
+
+  four-at : (i : ℕ) → i + 3 < SIZE
+      → (fourAt l i / 16777216 % 256 ≡ getD l i 0) × (fourAt l i / 65536 % 256 ≡ getD l (i + 1) 0) × (fourAt l i / 256 % 256 ≡ getD l (i + 2) 0) × (fourAt l i % 256 ≡ getD l (i + 3) 0)
+  four-at i h = four-back _ _ _ _ (byte-at i (omega arith)) (byte-at (i + 1) (omega arith)) (byte-at (i + 2) (omega arith)) (byte-at (i + 3) (omega arith))
+
+  pub bytes-back : stateBytes (readState l) ≡ l
+  unfolding stateBytes readState frontBytes headOf serialOf touchedOf
+  bytes-back =
+      let s = four-at SERIAL (omega arith) in
+      let t = four-at TOUCHED (omega arith) in
+      let a = byte-back (getD l ATTR 0) (byte-at ATTR (omega arith)) in
+      let r = rows-bytes l (v .size) in
+      let high = sym (v .length-high) in
+      let low = sym (v .length-low) in
+      let version = sym (v .version) in
+      (λ i.
+      high i ∷ low i ∷ version i ∷ getD l WIDTH 0 ∷ getD l CURSOR_ROW 0 ∷ getD l CURSOR_COL 0 ∷ getD l INSERT 0
+      ∷ getD l KEYS_ON 0 ∷ a i ∷ s .0 i ∷ s .1 i ∷ s .2 i ∷ s .3 i ∷ t .0 i ∷ t .1 i ∷ t .2 i ∷ t .3 i ∷ r i)
+      ∙ heads-eq FLAGS 0 l (omega (arith, v .size))

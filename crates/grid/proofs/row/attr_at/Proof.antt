@@ -1,0 +1,24 @@
+-- `grid::row::attr_at` meets its contract. Assumes nothing.
+use borrow.Author.Needs.{needs}
+use Rattle.grid.proofs.Rows.{attr-read}
+use Rattle.grid.proofs.row.attr_at.Statement.{statement}
+use Rattle.grid.proofs.row.attr_at.Tie as tie
+
+mul-result : tie.Need-mul-result
+mul-result c = search needs
+
+add-result : tie.Need-add-result
+add-result c = search needs
+
+add-result-2 : tie.Need-add-result-2
+add-result-2 c = search needs
+
+shared-slice-read-result : tie.Need-shared-slice-read-result
+shared-slice-read-result c = search needs
+
+returns : tie.Need-returns
+returns c = search (needs, attr-read)
+
+pub attr-at-spec : {M : Type 1} → statement M
+attr-at-spec =
+    tie.close (tie.spec mul-result add-result add-result-2 shared-slice-read-result returns)

@@ -1,0 +1,28 @@
+-- Document 01, "What a call answers": the number of a refusal, and what a call leaves in a slice that it writes.
+-- Assumes nothing.
+use Prim.Native.Nat.{ℕ, _+_}
+use mathlib.Core.List.{List, _++_}
+use lib.ListN.{length, drop}
+use lib.Dec.{eqb}
+use Rattle.grid.specs.Choice.{if_then_else_}
+
+-- the number that refusal k answers
+abbrev pub refused : ℕ → ℕ
+refused k = 4294967040 + k
+
+-- the number that a call answers, and the bytes that it leaves in the slice that it writes
+pub record Written : Type 0 where
+  pub number : ℕ
+  pub bytes : List ℕ
+
+-- refusal k changes no lent byte; 0 is no refusal
+unfoldable pub unless : ℕ → List ℕ → Written → Written
+unless k l o = if eqb k 0 then o else record { number = refused k; bytes = l }
+
+-- a text written to the front of an output: later bytes are unchanged
+abbrev pub over : List ℕ → List ℕ → List ℕ
+over text out = text ++ drop (length text) out
+
+-- a call that writes a text answers its length
+unfoldable pub wrote : List ℕ → List ℕ → Written
+wrote text out = record { number = length text; bytes = over text out }

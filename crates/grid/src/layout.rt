@@ -1,0 +1,34 @@
+// Where the fields of a screen record stand, how long it is, and its version: the one place of the code that names them.
+// `specs/Layout.antt` has the same names.
+pub const SCREEN_ROWS: usize = 25;
+// A row's cells stand 80 apart at either width.
+pub const STRIDE: usize = 80;
+
+pub const SIZE: usize = 4042;
+
+pub const VERSION: u8 = 1;
+
+pub const WIDTH: usize = 3;
+
+pub const CURSOR_ROW: usize = 4;
+
+pub const CURSOR_COL: usize = 5;
+
+pub const INSERT: usize = 6;
+
+pub const KEYS_ON: usize = 7;
+
+pub const ATTR: usize = 8;
+
+pub const SERIAL: usize = 9;
+
+pub const TOUCHED: usize = 13;
+
+pub const FLAGS: usize = 17;
+
+pub const CHARS: usize = 42;
+
+pub const ATTRS: usize = 2042;
+
+// Masks of 25 rows are below it.
+pub const MASKS: u32 = 33554432;

@@ -1,0 +1,14 @@
+// The screen record of document 01, "The cell grid": its head, rows, cells and flags read and written, its layout tested, its rows
+// compared, a new one made; and the cursor and its moves.
+//
+// Only this crate speaks of a record's bytes: each contract of a public function is about `headOf`, `rowOf`, `rowsOf` and `stateBytes`.
+pub mod attr;
+pub mod cursor;
+pub mod fresh;
+pub mod head;
+pub mod layout;
+pub mod mask;
+pub mod part;
+pub mod row;
+pub mod touched;
+pub mod valid;

@@ -1,0 +1,162 @@
+// The test of a record's layout.
+//
+// A loop over bytes has no early way out: it counts what is wrong, in a u8 and over at most 80 bytes, so that it is compiled to
+// vector instructions.
+use crate::attr::Attr;
+use crate::head;
+use crate::layout::ATTRS;
+use crate::layout::CHARS;
+use crate::layout::MASKS;
+use crate::layout::SCREEN_ROWS;
+use crate::layout::SIZE;
+use crate::layout::STRIDE;
+use crate::layout::VERSION;
+use crate::row;
+ghost use mathlib.Core.Path.{_≡_};
+ghost use Prim.Native.Nat.{_+_, _≤_, _<_};
+ghost use lib.ListN.{length};
+ghost use Rattle.grid.specs.Choice.{if_then_else_};
+ghost use Rattle.grid.specs.Layout.{SIZE};
+ghost use Rattle.grid.specs.Screen.{printable, zerob, every, widthb, validAttr, validHead, validRow};
+ghost use Rattle.grid.specs.Record.{window, rowOf, frontb, validb};
+
+// May a cell hold the character c?
+pub fn is_printable(c: u8) -> bool
+    ensures { λ t. ⌜ t ≡ printable c ⌝ }
+{
+    c == 27 || c >= 32
+}
+
+fn unprintable(c: u8) -> u8
+    ensures { λ k. ⌜ (k ≡ (if printable c then 0 else 1)) × (k ≤ 1) ⌝ }
+{
+    if c == 27 {
+        return 0;
+    }
+    if c < 32 { 1 } else { 0 }
+}
+
+fn nonzero(c: u8) -> u8
+    ensures { λ k. ⌜ (k ≡ (if zerob c then 0 else 1)) × (k ≤ 1) ⌝ }
+{
+    if c == 0 { 0 } else { 1 }
+}
+
+// Are the n bytes from index at on characters that a cell may hold?
+fn all_printable(rec: &[u8], at: usize, n: usize) -> bool
+    requires { ⌜ (at + n ≤ length (now rec)) × (n ≤ 80) ⌝ }
+    ensures { λ t. ⌜ t ≡ every printable (window (now (rec .entry)) at n) ⌝ }
+{
+    let mut bad: u8 = 0;
+    let mut i = 0;
+    while i < n {
+        bad = bad + unprintable(rec[at + i]);
+        i += 1;
+    }
+    bad == 0
+}
+
+// Are the n bytes from index at on zero?
+fn all_zero(rec: &[u8], at: usize, n: usize) -> bool
+    requires { ⌜ (at + n ≤ length (now rec)) × (n ≤ 80) ⌝ }
+    ensures { λ t. ⌜ t ≡ every zerob (window (now (rec .entry)) at n) ⌝ }
+{
+    let mut bad: u8 = 0;
+    let mut i = 0;
+    while i < n {
+        bad = bad + nonzero(rec[at + i]);
+        i += 1;
+    }
+    bad == 0
+}
+
+fn row_ok(rec: &[u8], r: usize, w: usize) -> bool
+    requires { ⌜ (length (now rec) ≡ SIZE) × (r < 25) × (w ≤ 80) ⌝ }
+    ensures { λ t. ⌜ t ≡ validRow w (rowOf (now (rec .entry)) r) ⌝ }
+{
+    if row::flag_at(rec, r) > 1 {
+        return false;
+    }
+    if !all_printable(rec, CHARS + STRIDE * r, w) {
+        return false;
+    }
+    if !all_zero(rec, CHARS + STRIDE * r + w, 80 - w) {
+        return false;
+    }
+    all_zero(rec, ATTRS + STRIDE * r + w, 80 - w)
+}
+
+fn width_ok(w: usize) -> bool
+    ensures { λ t. ⌜ t ≡ widthb w ⌝ }
+{
+    w == 40 || w == 80
+}
+
+fn attr_ok(a: Attr) -> bool
+    ensures { λ t. ⌜ t ≡ validAttr a ⌝ }
+{
+    a.foreground < 16 && a.background < 16
+}
+
+fn head_ok(h: head::Head) -> bool
+    ensures { λ t. ⌜ t ≡ validHead h ⌝ }
+{
+    if !width_ok(h.width) {
+        return false;
+    }
+    if h.cursor.row >= head::editable_rows(h.keys) {
+        return false;
+    }
+    if h.cursor.col >= h.width {
+        return false;
+    }
+    if h.insert > 1 {
+        return false;
+    }
+    if h.keys > 1 {
+        return false;
+    }
+    let a = h.attr;
+    attr_ok(a)
+}
+
+fn front_ok(rec: &[u8]) -> bool
+    requires { ⌜ length (now rec) ≡ SIZE ⌝ }
+    ensures { λ t. ⌜ t ≡ frontb (now (rec .entry)) ⌝ }
+{
+    if rec[0] != (SIZE / 256) as u8 {
+        return false;
+    }
+    if rec[1] != (SIZE % 256) as u8 {
+        return false;
+    }
+    if rec[2] != VERSION {
+        return false;
+    }
+    head::read_touched(rec) < MASKS
+}
+
+// Is the slice a record as the layout asks?
+pub fn valid(rec: &[u8]) -> bool
+    ensures { λ t. ⌜ t ≡ validb (now (rec .entry)) ⌝ }
+{
+    if rec.len() != SIZE {
+        return false;
+    }
+    if !front_ok(rec) {
+        return false;
+    }
+    let h = head::read_head(rec);
+    if !head_ok(h) {
+        return false;
+    }
+    let w = h.width;
+    let mut r = 0;
+    while r < SCREEN_ROWS {
+        if !row_ok(rec, r, w) {
+            return false;
+        }
+        r += 1;
+    }
+    true
+}
