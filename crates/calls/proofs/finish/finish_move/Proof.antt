@@ -1,0 +1,25 @@
+-- `calls::finish::finish_move` meets its contract. Assumes nothing.
+use borrow.Author.Needs.{needs}
+use Rattle.calls.proofs.Finishing.{finished-move}
+use Rattle.calls.proofs.finish.finish_move.Statement.{statement}
+use Rattle.calls.proofs.finish.finish_move.Tie as tie
+
+read-serial-requires : tie.Need-read-serial-requires
+read-serial-requires c κs = search needs
+
+add-write-front : tie.Need-add-write-front
+add-write-front c = search needs
+
+write-front-requires : tie.Need-write-front-requires
+write-front-requires c κs = search needs
+
+same-length : tie.Need-same-length
+same-length c = search needs
+
+returns : tie.Need-returns
+returns c = search (needs, finished-move)
+
+pub finish-move-spec : {M : Type 1} → statement M
+finish-move-spec =
+    tie.close
+    (tie.spec read-serial-requires add-write-front write-front-requires same-length returns)

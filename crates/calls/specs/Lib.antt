@@ -1,0 +1,2 @@
+-- What the contracts of `calls` say of the number answered and of the lent slices.
+pub mod Answers

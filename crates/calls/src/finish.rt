@@ -1,0 +1,30 @@
+// The end of every changing call: the front of its record is written anew.
+use grid::head;
+ghost use mathlib.Core.Path.{_≡_};
+ghost use Prim.Native.Nat.{_+_};
+ghost use mathlib.Core.List.{_++_};
+ghost use lib.ListN.{length, drop};
+ghost use Rattle.grid.specs.Layout.{SIZE, FLAGS};
+ghost use Rattle.grid.specs.Screen.{touchedRows};
+ghost use Rattle.grid.specs.Record.{serialOf, rowsOf, frontBytes};
+ghost use Rattle.grid.specs.Facts.{HeadFits};
+ghost use Rattle.editor.specs.Outcome.{LAST-SERIAL};
+
+// Writes the head h, the next serial and the rows that differ from the record's copy old.
+pub fn finish(rec: &mut [u8], old: &[u8], h: head::Head)
+    requires { ⌜ (length (now rec) ≡ SIZE) × (length (now old) ≡ SIZE) × HeadFits h × (serialOf (now old) ≡ LAST-SERIAL → ⊥) ⌝ }
+    ensures { λ _. ⌜ now (rec .exit) ≡ frontBytes h (serialOf (now (old .entry)) + 1) (touchedRows (rowsOf (now (old .entry))) (rowsOf (now (rec .entry)))) ++ drop FLAGS (now (rec .entry)) ⌝ }
+{
+    let touched = grid::touched::changed_rows(old, rec);
+    let serial = head::read_serial(old);
+    head::write_front(rec, h, serial + 1, touched);
+}
+
+// The same where no row has changed: nothing is touched.
+pub fn finish_move(rec: &mut [u8], h: head::Head)
+    requires { ⌜ (length (now rec) ≡ SIZE) × HeadFits h × (serialOf (now rec) ≡ LAST-SERIAL → ⊥) ⌝ }
+    ensures { λ _. ⌜ now (rec .exit) ≡ frontBytes h (serialOf (now (rec .entry)) + 1) 0 ++ drop FLAGS (now (rec .entry)) ⌝ }
+{
+    let serial = head::read_serial(rec);
+    head::write_front(rec, h, serial + 1, 0);
+}

@@ -1,0 +1,16 @@
+// New screen.
+use crate::refusal::REFUSED;
+use grid::layout::SIZE;
+ghost use Rattle.editor.specs.Outcome.{creating};
+ghost use Rattle.calls.specs.Answers.{Writes};
+
+// Takes any width and does not read the old bytes.
+pub fn new_screen(rec: &mut [u8], width: u32) -> u32
+    ensures { λ n. ⌜ Writes (creating width (now (rec .entry))) n (now (rec .exit)) ⌝ }
+{
+    if rec.len() != SIZE {
+        return REFUSED + 1;
+    }
+    grid::fresh::new_screen(rec, width);
+    0
+}

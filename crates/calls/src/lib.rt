@@ -1,0 +1,7 @@
+// The calls of document 01 on a lent screen record: each refuses first, in document 01's order, and then does what its rule says.
+//
+// No function here asks anything of its caller: each contract says, for every lent slice, the number answered and every byte left.
+pub mod finish;
+pub mod fresh;
+pub mod reading;
+pub mod refusal;
