@@ -1,3 +1,10 @@
-// The text screen of document 01, from "Printing" to "Motion, modes", and its texts: what each of the 24 changing calls does to a record,
-// what the reading and text calls answer, and what all of them refuse, in document 01's order.
-// Here are the definitions; the code follows.
+// The text screen of document 01, from "Printing" to "Motion, modes", and its texts: what each of the 24 changing calls does to a record.
+//
+// A function here that does a call's work gets a valid record and hands the new head back: it writes rows, never the front. One that reads what it
+// overwrites gets a copy `old` of the record too.
+pub mod modes;
+pub mod motion;
+pub mod print;
+pub mod text;
+pub mod typing;
+pub mod words;

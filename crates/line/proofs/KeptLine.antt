@@ -11,13 +11,14 @@ use lib.ListN.{length, take, drop, replicate, length-append, length-take, length
 use lib.Dec.{eqb, ltb}
 use borrow.Author.Tests.{eqb-true, eqb-false, ltb-false}
 use Rattle.grid.specs.Choice.{if_then_else_}
-use Rattle.grid.specs.Screen.{Row, Screen, withRows, editable, every, printable, validRow, blankRow}
+use Rattle.grid.specs.Screen.{Row, Screen, withRows, editable, isSpace, trim, every, printable, validRow, blankRow}
 use Rattle.grid.specs.Facts.{RowsFacts, ScreenFacts}
 use Rattle.grid.specs.declared.attr.Attr.{Attr}
 use Rattle.grid.proofs.Bools.{and-left, and-right, cases, either, every-both, every-take, every-drop}
+use Rattle.grid.proofs.Trim.{trim-le}
 use Rattle.grid.proofs.Validity.{row-facts, row-valid}
 use Rattle.grid.proofs.Keep.{rows-take, rows-drop, rows-append, rows-cons, rows-count, rows-replicate, row-at, spaces, line-row, Edited, edited-top, blank-of}
-use Rattle.line.specs.Line.{MAX-LOGICAL, spanStart, spanEnd, startOf, endOf, joined, rowText, wholeRows, index, reach, content}
+use Rattle.line.specs.Line.{MAX-LOGICAL, spanStart, spanEnd, startOf, endOf, joined, rowText, wholeRows, reading, lineText, index, reach, content}
 use Rattle.line.specs.Splice.{rowsFor, lineRows, splicedRows, splice}
 use Rattle.line.proofs.Kept.{Kept}
 
@@ -88,6 +89,19 @@ module _ (s : Screen) (f : ScreenFacts s) where
         fits = simp (length-append, length-replicate, length-take) (omega arith);
         within = simp (length-append, length-replicate, length-take) (omega arith);
       }
+
+-- ---- the reading is no longer either
+
+pub reading-fits : (s : Screen) (b e : ℕ) → length (reading s b e) ≤ MAX-LOGICAL
+unfolding reading trim
+reading-fits s b e =
+    let all : List ℕ = wholeRows s b e ++ trim (rowText s e) in
+    let cut : length (take MAX-LOGICAL all) ≤ MAX-LOGICAL = simp length-take (omega arith) in
+    omega (arith, trim-le isSpace (take MAX-LOGICAL all))
+
+pub line-fits : (s : Screen) → length (lineText s) ≤ MAX-LOGICAL
+unfolding lineText
+line-fits s = reading-fits s _ _
 
 -- ---- splice
 

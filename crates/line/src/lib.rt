@@ -1,2 +1,12 @@
 // The logical lines of document 01: a line's span of rows, its reading and its editing content, and splice, which writes a line anew.
-// Here are the definitions; the code follows.
+//
+// A function that reads gets a record `rec` and its head `h`. One that writes gets a copy `old` of the record too: it reads `old`, writes rows of
+// `rec`, and hands the new head back.
+mod chars;
+pub mod content;
+mod num;
+mod plan;
+pub mod reading;
+pub mod span;
+pub mod splice;
+pub mod text;

@@ -1,5 +1,6 @@
--- Document 01, "Reports and mirror": the definitions that the contracts of `mirror` cite.
+-- Document 01, "Reports and mirror": the definitions that the contracts of `mirror` cite, and demand 3.
 pub mod Layout
 pub mod Report
 pub mod Mirror
 pub mod Count
+pub mod Demand3

@@ -1,0 +1,155 @@
+// Printing: bytes written at the cursor, from row to row, and the step to the next row.
+//
+// While a call prints, the head goes from hand to hand and the rows change in the record, whose own head stays as it was.
+use crate::motion::with_cursor;
+use grid::cursor::Cursor;
+use grid::head;
+use grid::head::Head;
+use grid::row;
+use grid::valid;
+ghost use mathlib.Core.Path.{_≡_};
+ghost use mathlib.Core.Bool.{_&&_};
+ghost use Prim.Native.Nat.{_-_, _≤_, _<_};
+ghost use lib.Dec.{ltb, eqb};
+ghost use lib.ListN.{length, take};
+ghost use Rattle.grid.specs.Choice.{if_then_else_};
+ghost use Rattle.grid.specs.Layout.{SIZE};
+ghost use Rattle.grid.specs.Screen.{isEmpty, isSpace, trim, withCursor, setFlag};
+ghost use Rattle.grid.specs.Record.{rowOf, rowsOf, screenOf, Leaves};
+ghost use Rattle.grid.specs.Facts.{HeadFacts, Valid};
+ghost use Rattle.line.specs.Line.{flagged};
+ghost use Rattle.editor.specs.Print.{rowIsBlank, nextRow, newline, putChar, printByte};
+ghost use Rattle.editor.specs.Call.{PrintBytes, BreakLine, apply};
+
+fn not_space(c: u8) -> u8
+    ensures { λ k. ⌜ (k ≡ (if isSpace c then 0 else 1)) × (k ≤ 1) ⌝ }
+{
+    if c == b' ' { 0 } else { 1 }
+}
+
+// Does the row r hold only spaces, w of them? As in `grid::valid`, the loop counts and has no early way out.
+pub fn row_is_blank(rec: &[u8], r: usize, w: usize) -> bool
+    requires { ⌜ (length (now rec) ≡ SIZE) × (r < 25) × (w ≤ 80) ⌝ }
+    ensures { λ t. ⌜ t ≡ isEmpty (trim (take w (rowOf (now (rec .entry)) r .chars))) ⌝ }
+{
+    let mut bad: u8 = 0;
+    let mut c = 0;
+    while c < w {
+        bad = bad + not_space(row::char_at(rec, r, c));
+        c += 1;
+    }
+    bad == 0
+}
+
+// To the next row's column 0, scrolling on the last editable row.
+pub fn next_row(rec: &mut [u8], h: Head) -> Head
+    requires { ⌜ (length (now rec) ≡ SIZE) × HeadFacts h ⌝ }
+    ensures { λ g. ⌜ Leaves (nextRow (record { head = h; rows = rowsOf (now (rec .entry)) })) (now (rec .entry)) (now (rec .exit)) g ⌝ }
+{
+    let r = h.cursor.row;
+    let e = head::editable_rows(h.keys);
+    if r + 1 < e {
+        return with_cursor(h, Cursor::new(r + 1, 0));
+    }
+    let attr = h.attr;
+    row::scroll_up(rec, e, h.width, attr);
+    with_cursor(h, Cursor::new(r, 0))
+}
+
+// Does the cursor stand in column 0 of a blank row, below a flagged one?
+fn wrapped(rec: &[u8], h: Head) -> bool
+    requires { ⌜ (length (now rec) ≡ SIZE) × HeadFacts h ⌝ }
+    ensures { λ t. ⌜ t ≡ (eqb (h .cursor .col) 0 && (ltb 0 (h .cursor .row) && (flagged (rowsOf (now (rec .entry))) (h .cursor .row - 1) && rowIsBlank (record { head = h; rows = rowsOf (now (rec .entry)) }) (h .cursor .row)))) ⌝ }
+{
+    let r = h.cursor.row;
+    if h.cursor.col != 0 {
+        return false;
+    }
+    if r == 0 {
+        return false;
+    }
+    if row::flag_at(rec, r - 1) != 1 {
+        return false;
+    }
+    row_is_blank(rec, r, h.width)
+}
+
+fn newline(rec: &mut [u8], h: Head) -> Head
+    requires { ⌜ (length (now rec) ≡ SIZE) × HeadFacts h ⌝ }
+    ensures { λ g. ⌜ Leaves (newline (record { head = h; rows = rowsOf (now (rec .entry)) })) (now (rec .entry)) (now (rec .exit)) g ⌝ }
+{
+    if !wrapped(rec, h) {
+        return next_row(rec, h);
+    }
+    // What filled the row above has already gone to this one.
+    row::set_flag(rec, h.cursor.row - 1, 0);
+    h
+}
+
+// Flags the cursor's row, which is full, and goes to the next.
+fn wrap(rec: &mut [u8], h: Head) -> Head
+    requires { ⌜ (length (now rec) ≡ SIZE) × HeadFacts h ⌝ }
+    ensures { λ g. ⌜ Leaves (nextRow (record { head = h; rows = setFlag (rowsOf (now (rec .entry))) (h .cursor .row) 1 })) (now (rec .entry)) (now (rec .exit)) g ⌝ }
+{
+    row::set_flag(rec, h.cursor.row, 1);
+    next_row(rec, h)
+}
+
+// The Rust first scrolls where the cursor is below the editable rows: of a valid record it never is.
+fn put_print_char(rec: &mut [u8], h: Head, ch: u8) -> Head
+    requires { ⌜ (length (now rec) ≡ SIZE) × HeadFacts h ⌝ }
+    ensures { λ g. ⌜ Leaves (putChar (record { head = h; rows = rowsOf (now (rec .entry)) }) ch) (now (rec .entry)) (now (rec .exit)) g ⌝ }
+{
+    let r = h.cursor.row;
+    let c = h.cursor.col;
+    let attr = h.attr;
+    row::put_cell(rec, r, c, ch, attr);
+    if c + 1 < h.width {
+        return with_cursor(h, Cursor::new(r, c + 1));
+    }
+    wrap(rec, h)
+}
+
+// Prints the byte b; cr says that the byte before it was 13. (The Rust looks ahead from 13; here 10 looks back.)
+fn print_byte(rec: &mut [u8], h: Head, cr: bool, b: u8) -> Head
+    requires { ⌜ (length (now rec) ≡ SIZE) × HeadFacts h ⌝ }
+    ensures { λ g. ⌜ Leaves (printByte cr (record { head = h; rows = rowsOf (now (rec .entry)) }) b) (now (rec .entry)) (now (rec .exit)) g ⌝ }
+{
+    if b == b'\r' {
+        return newline(rec, h);
+    }
+    if b == b'\n' {
+        if cr {
+            return h;
+        }
+        return newline(rec, h);
+    }
+    if valid::is_printable(b) {
+        return put_print_char(rec, h, b);
+    }
+    h
+}
+
+pub fn print_bytes(rec: &mut [u8], bytes: &[u8]) -> Head
+    requires { ⌜ Valid (now rec) ⌝ }
+    ensures { λ h. ⌜ Leaves (apply (PrintBytes (now (bytes .entry))) (screenOf (now (rec .entry)))) (now (rec .entry)) (now (rec .exit)) h ⌝ }
+{
+    let mut h = head::read_head(rec);
+    let mut cr = false;
+    let mut i = 0;
+    while i < bytes.len() {
+        let b = bytes[i];
+        h = print_byte(rec, h, cr, b);
+        cr = b == b'\r';
+        i += 1;
+    }
+    h
+}
+
+pub fn break_line(rec: &mut [u8]) -> Head
+    requires { ⌜ Valid (now rec) ⌝ }
+    ensures { λ h. ⌜ Leaves (apply BreakLine (screenOf (now (rec .entry)))) (now (rec .entry)) (now (rec .exit)) h ⌝ }
+{
+    let h = head::read_head(rec);
+    next_row(rec, h)
+}

@@ -1,0 +1,2 @@
+-- Every example of the list holds.
+pub mod Checked

@@ -1,0 +1,73 @@
+// Splice: the span under the cursor becomes another text, or goes.
+use crate::plan;
+use crate::span::Span;
+use crate::text::Text;
+use grid::cursor::Cursor;
+use grid::head;
+use grid::head::Head;
+ghost use Prim.Native.Nat.{_≤_, _<_};
+ghost use Rattle.grid.specs.Screen.{editable};
+ghost use Rattle.grid.specs.Record.{screenOf, Leaves};
+ghost use Rattle.line.specs.Line.{MAX-LOGICAL};
+ghost use Rattle.line.specs.Splice.{splice};
+ghost use Rattle.line.specs.Given.{Begun, SpanIs};
+ghost use Rattle.line.specs.Text.{Sound, textOf};
+ghost use Rattle.line.specs.Plan.{Count, withoutRows};
+
+// The rows that n characters take with the cursor at i.
+fn rows_for(w: usize, n: usize, i: usize) -> usize
+    requires { ⌜ (40 ≤ w) × (w ≤ 80) × (n ≤ MAX-LOGICAL) ⌝ }
+    ensures { λ k. ⌜ Count w n i k ⌝ }
+{
+    if n == 0 {
+        return 1;
+    }
+    let k = (n + w - 1) / w;
+    if i != n {
+        return k;
+    }
+    if n % w != 0 {
+        return k;
+    }
+    k + 1
+}
+
+// Span is that of the cursor's row. The new head is handed back.
+pub fn splice_logical(rec: &mut [u8], old: &[u8], h: Head, span: Span, text: Text) -> Head
+    requires { ⌜ Begun (now rec) (now old) h × SpanIs (now old) h (h .cursor .row) (span .start) (span .end) × Sound text ⌝ }
+    ensures { λ r. ⌜ Leaves (splice (screenOf (now (old .entry))) (textOf text) (text .index)) (now (rec .entry)) (now (rec .exit)) r ⌝ }
+{
+    let w = h.width;
+    let attr = h.attr;
+    let i = text.index;
+    let len = text.len;
+    let k = rows_for(w, len, i);
+    let p = plan::plan_of(span, k, head::editable_rows(h.keys));
+    let bytes = text.bytes;
+    plan::write_rows(rec, old, p, &bytes, len, w, attr);
+    Head {
+        width: w,
+        cursor: Cursor::new(p.top + i / w, i % w),
+        insert: h.insert,
+        keys: h.keys,
+        attr: attr,
+    }
+}
+
+// The span's rows go, later ones move up, blank rows fill below; the cursor goes to the first column of the span's first row.
+pub fn remove_line(rec: &mut [u8], old: &[u8], h: Head, span: Span) -> Head
+    requires { ⌜ Begun (now rec) (now old) h × (span .start ≤ span .end) × (span .end < editable (h .keys)) ⌝ }
+    ensures { λ r. ⌜ Leaves (withoutRows (screenOf (now (old .entry))) (span .start) (span .end)) (now (rec .entry)) (now (rec .exit)) r ⌝ }
+{
+    let attr = h.attr;
+    // A line of no rows needs no text.
+    let p = plan::plan_of(span, 0, head::editable_rows(h.keys));
+    plan::write_rows(rec, old, p, old, 0, h.width, attr);
+    Head {
+        width: h.width,
+        cursor: Cursor::new(span.start, 0),
+        insert: h.insert,
+        keys: h.keys,
+        attr: attr,
+    }
+}
