@@ -5,22 +5,22 @@ use mathlib.Core.Path.{_≡_, refl, sym, ap, ap₂, _∙_, subst}
 use mathlib.Core.Bool.{Bool, true, false, not, _&&_}
 use mathlib.Core.List.{List}
 use native.Mathlib.Omega.{arith}
-use lib.Dec.{leb, ltb, eqb}
+use lib.Dec.{eqb}
 use lib.ListN.{length, getD}
 use mir.Syntax.{w32, w64}
 use mir.Val.{Fits}
 use borrow.Author.Tests.{eq-eqb, ne-eqb, le-leb, lt-leb, lt-ltb, le-ltb}
 use Rattle.grid.specs.Choice.{if_then_else_}
-use Rattle.grid.specs.Answer.{refused, Written, unless}
+use Rattle.grid.specs.Answer.{refused, unless, Writes}
 use Rattle.grid.specs.Layout.{SIZE}
-use Rattle.grid.specs.Screen.{Row, Screen, rowAt, noRow, editable, byteOf, newState}
+use Rattle.grid.specs.Screen.{Row, rowAt, noRow, editable, byteOf, newState}
 use Rattle.grid.specs.Record.{rowOf, rowsOf, headOf, screenOf, stateBytes, validb}
 use Rattle.grid.specs.Facts.{HeadFacts, Valid}
 use Rattle.grid.specs.declared.head.Head.{Head}
 use Rattle.grid.proofs.Rows.{getD-rows}
 use Rattle.grid.proofs.Validity.{facts-valid}
 use Rattle.editor.specs.Outcome.{Query, refusal, inside, answer, asking, creating, AskWidth, AskCursor, AskAttr, AskEditableRows, AskCell, AskContinues}
-use Rattle.calls.specs.Answers.{Writes, WidthIs, cellOf, refusedWith}
+use Rattle.calls.specs.Answers.{WidthIs, cellOf, refusedWith}
 use Rattle.calls.proofs.Refusing.{Accepted, accepted}
 
 -- ---- new screen

@@ -3,10 +3,10 @@
 -- Assumes nothing.
 use Prim.Native.Nat.{ℕ, _+_, _≤_}
 use mathlib.Core.Path.{_≡_, refl, sym, ap, ap₂, _∙_, subst}
-use mathlib.Core.Bool.{Bool, true, false}
+use mathlib.Core.Bool.{Bool, true}
 use mathlib.Core.List.{List, _++_}
 use native.Mathlib.Omega.{arith}
-use lib.Dec.{leb, eqb}
+use lib.Dec.{leb}
 use lib.ListN.{length, drop}
 use mir.Syntax.{w8}
 use mir.Val.{Fits}
@@ -14,15 +14,16 @@ use borrow.Author.Tests.{eq-eqb, ne-eqb, leb-true}
 use Rattle.grid.specs.Choice.{if_then_else_}
 use Rattle.grid.specs.Answer.{refused, over}
 use Rattle.grid.specs.Layout.{SIZE, FLAGS}
-use Rattle.grid.specs.Screen.{Row, Screen, touchedRows}
-use Rattle.grid.specs.Record.{rowsOf, screenOf, serialOf, readState, stateBytes, frontBytes, Becomes, Leaves, Moves}
-use Rattle.grid.specs.Facts.{HeadFacts, HeadFits, Valid}
+use Rattle.grid.specs.Screen.{widthb, touchedRows}
+use Rattle.grid.specs.Record.{rowsOf, screenOf, serialOf, readState, stateBytes, frontBytes, Leaves, Moves}
+use Rattle.grid.specs.Facts.{HeadFits, Valid}
 use Rattle.grid.specs.declared.head.Head.{Head}
-use Rattle.grid.proofs.Validity.{head-fits}
+use Rattle.grid.proofs.Validity.{width-cases, width-to, head-fits}
 use Rattle.grid.proofs.Record.{left-bytes}
 use Rattle.grid.proofs.Differing.{touched-none}
-use Rattle.editor.specs.Call.{Call, output, roomy, inRange, apply, submitted, step}
-use Rattle.editor.specs.Outcome.{Outcome, refusal, changeRefusal, changing, LAST-SERIAL}
+use Rattle.editor.specs.Call.{Call, SetWidth, rule, output, roomy, inRange, apply, submitted, step}
+use Rattle.editor.specs.Outcome.{refusal, changeRefusal, changing, LAST-SERIAL}
+use Rattle.editor.specs.Given.{Copied, Ends}
 use Rattle.editor.proofs.KeptCall.{apply-facts}
 use Rattle.calls.specs.Answers.{Answers, refusedWith, spent}
 use Rattle.calls.proofs.Refusing.{Going, none-refused, going}
@@ -55,6 +56,9 @@ module _ (long ok : Bool) (l : List ℕ) (k : ℕ) (is : k ≡ refusedWith (spen
     pub copy-valid : Valid old
     copy-valid = subst Valid (sym copy) call-valid
 
+    pub call-copied : Copied l old
+    call-copied = record { size = call-size; copy = sym copy; valid = copy-valid }
+
     pub copy-serial : serialOf old ≡ LAST-SERIAL → ⊥
     copy-serial q = call-serial (ap serialOf (sym copy) ∙ q)
 
@@ -67,6 +71,9 @@ switch-fits v e = record { fits = omega (arith, leb-true v 1 e) }
 
 pub switch-small : (v : ℕ) → leb v 1 ≡ true → v ≤ 1
 switch-small v e = leb-true v 1 e
+
+pub width-small : (w : ℕ) (t : Bool) → t ≡ widthb w → t ≡ true → w ≤ 80
+width-small w t is y = width-to w (width-cases w (sym is ∙ y))
 
 -- ---- the call c
 
@@ -119,27 +126,70 @@ module _ (c : Call) (l : List ℕ) (k : ℕ) (is : k ≡ refusedWith (spent (ref
           state-left h m n (touchedRows (rowsOf l) (rowsOf m)) (left .becomes .rows) (left .becomes .size) (left .head)
           (ap (touchedRows (rowsOf l)) (left .becomes .rows)) (rw copy at e)
 
-      pub call-done : (n : List ℕ) → n ≡ frontBytes h (serialOf old + 1) (touchedRows (rowsOf old) (rowsOf m)) ++ drop FLAGS m
-          → Answers (changing c l) (length (submitted c (screenOf l))) n
-      call-done n e = rw (outcome-done zero) (record { number = refl; left = leaves-state n e })
+      pub call-done : (n : List ℕ) (v : ℕ) → v ≡ length (submitted c (screenOf l))
+          → n ≡ frontBytes h (serialOf old + 1) (touchedRows (rowsOf old) (rowsOf m)) ++ drop FLAGS m → Answers (changing c l) v n
+      call-done n v ev e = rw (outcome-done zero) (record { number = ev; left = leaves-state n e })
+
+    -- a call whose work reads the copy
+    module _ (old m : List ℕ) (copy : old ≡ l) (h : Head) (left : Leaves (apply c (screenOf old)) l m h) where
+      here : Leaves (apply c (screenOf l)) l m h
+      here = subst (λ (x : List ℕ). Leaves (apply c (screenOf x)) l m h) copy left
+
+      pub copied-fits : HeadFits h
+      copied-fits = leaves-fits old m copy h here
+
+      pub copied-done : (n : List ℕ) (v : ℕ) → v ≡ length (submitted c (screenOf l))
+          → n ≡ frontBytes h (serialOf old + 1) (touchedRows (rowsOf old) (rowsOf m)) ++ drop FLAGS m → Answers (changing c l) v n
+      copied-done n v ev e = call-done old m copy h here n v ev e
+
+    -- `tab`, which also writes heads on the way
+    module _ (old m : List ℕ) (copy : old ≡ l) (h : Head) (ends : Ends (apply c (screenOf l)) m h) where
+      pub ends-fits : HeadFits h
+      ends-fits = head-kept h (ends .head)
+
+      pub ends-done : (n : List ℕ) (v : ℕ) → v ≡ length (submitted c (screenOf l))
+          → n ≡ frontBytes h (serialOf old + 1) (touchedRows (rowsOf old) (rowsOf m)) ++ drop FLAGS m → Answers (changing c l) v n
+      ends-done n v ev e =
+          rw (outcome-done zero)
+          (record {
+            number = ev;
+            left =
+                state-left h m n (touchedRows (rowsOf l) (rowsOf m)) (ends .rows) (ends .size) (ends .head) (ap (touchedRows (rowsOf l)) (ends .rows))
+                (rw copy at e);
+          })
 
     -- a call that moves the cursor or sets a mode
     module _ (h : Head) (moves : Moves (apply c (screenOf l)) l h) where
       pub moves-fits : HeadFits h
       moves-fits = head-kept h (moves .head)
 
-      pub move-done : (n : List ℕ) → n ≡ frontBytes h (serialOf l + 1) 0 ++ drop FLAGS l → Answers (changing c l) (length (submitted c (screenOf l))) n
-      move-done n e =
+      pub move-done : (n : List ℕ) (v : ℕ) → v ≡ length (submitted c (screenOf l)) → n ≡ frontBytes h (serialOf l + 1) 0 ++ drop FLAGS l
+          → Answers (changing c l) v n
+      move-done n v ev e =
           let f = going (roomy c) (inRange c) l (sym is ∙ zero) in
           rw (outcome-done zero)
           (record {
-            number = refl;
+            number = ev;
             left =
                 state-left h l n 0 (sym (moves .rows)) (f .start .size) (moves .head)
                 (sym (ap (touchedRows (rowsOf l)) (moves .rows) ∙ touched-none (rowsOf l))) e;
           })
 
--- a call that reads the copy: `old` stands where the record did
-module _ (c : Call) (l old m : List ℕ) (copy : old ≡ l) (h : Head) where
-  pub from-copy : Leaves (apply c (screenOf old)) l m h → Leaves (apply c (screenOf l)) l m h
-  from-copy left = subst (λ (x : List ℕ). Leaves (apply c (screenOf x)) l m h) copy left
+-- ---- `set_width`: t is what the test of the width has answered
+
+module _ (w : ℕ) (t : Bool) (it : t ≡ widthb w) (l : List ℕ) (k : ℕ) (is : k ≡ refusedWith (spent (refusal true t l) l)) where
+  is′ : k ≡ refusedWith (spent (refusal (roomy (SetWidth w)) (inRange (SetWidth w)) l) l)
+  unfolding roomy inRange rule
+  is′ = is ∙ ap (λ (b : Bool). refusedWith (spent (refusal true b l) l)) it
+
+  pub set-width-refused : (k ≡ 0 → ⊥) → Answers (changing (SetWidth w) l) k l
+  set-width-refused ne = call-refused (SetWidth w) l k is′ ne
+
+  module _ (zero : k ≡ 0) (old m : List ℕ) (copy : old ≡ l) (h : Head) (left : Leaves (apply (SetWidth w) (screenOf l)) l m h) where
+    pub set-width-fits : HeadFits h
+    set-width-fits = leaves-fits (SetWidth w) l k is′ zero old m copy h left
+
+    pub set-width-done : (n : List ℕ) → n ≡ frontBytes h (serialOf old + 1) (touchedRows (rowsOf old) (rowsOf m)) ++ drop FLAGS m
+        → Answers (changing (SetWidth w) l) 0 n
+    unfolding submitted rule
+    set-width-done n e = call-done (SetWidth w) l k is′ zero old m copy h left n 0 refl e

@@ -3,3 +3,4 @@ pub mod Refusing
 pub mod Asking
 pub mod Finishing
 pub mod Changing
+pub mod Texting

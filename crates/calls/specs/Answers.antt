@@ -2,12 +2,12 @@
 -- Assumes nothing.
 use Prim.Native.Nat.{ℕ, _+_, _*_, _≤_}
 use mathlib.Core.Path.{_≡_}
-use mathlib.Core.Bool.{Bool, _&&_}
+use mathlib.Core.Bool.{_&&_}
 use mathlib.Core.List.{List}
 use lib.Dec.{eqb}
 use lib.ListN.{getD}
 use Rattle.grid.specs.Choice.{if_then_else_}
-use Rattle.grid.specs.Answer.{refused, Written}
+use Rattle.grid.specs.Answer.{refused}
 use Rattle.grid.specs.Record.{rowOf, headOf, serialOf}
 use Rattle.editor.specs.Outcome.{Outcome, LAST-SERIAL}
 
@@ -21,11 +21,6 @@ pub record Submits (o : Outcome) (n : ℕ) (rec out : List ℕ) : Type 0 where
   pub number : n ≡ o .number
   pub left : rec ≡ o .rec
   pub output : out ≡ o .out
-
--- a call that writes one slice
-pub record Writes (o : Written) (n : ℕ) (bytes : List ℕ) : Type 0 where
-  pub number : n ≡ o .number
-  pub left : bytes ≡ o .bytes
 
 -- ---- what the code computes on the way: the width and a cell of a record
 

@@ -1,8 +1,8 @@
 // New screen.
-use crate::refusal::REFUSED;
+use grid::answer::REFUSED;
 use grid::layout::SIZE;
 ghost use Rattle.editor.specs.Outcome.{creating};
-ghost use Rattle.calls.specs.Answers.{Writes};
+ghost use Rattle.grid.specs.Answer.{Writes};
 
 // Takes any width and does not read the old bytes.
 pub fn new_screen(rec: &mut [u8], width: u32) -> u32

@@ -3,5 +3,10 @@
 // No function here asks anything of its caller: each contract says, for every lent slice, the number answered and every byte left.
 pub mod finish;
 pub mod fresh;
+pub mod modes;
+pub mod motion;
+pub mod printing;
 pub mod reading;
 pub mod refusal;
+pub mod texts;
+pub mod typing;

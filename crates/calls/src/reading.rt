@@ -1,6 +1,6 @@
 // The reading calls: they answer a number and change nothing.
-use crate::refusal::REFUSED;
 use crate::refusal::refused;
+use grid::answer::REFUSED;
 use grid::head;
 use grid::row;
 ghost use mathlib.Core.Path.{_≡_};

@@ -1,11 +1,9 @@
 // The refusals that the calls on a screen record share.
+use grid::answer::REFUSED;
 use grid::layout::SIZE;
 ghost use mathlib.Core.Path.{_≡_};
 ghost use Rattle.editor.specs.Outcome.{refusal};
 ghost use Rattle.calls.specs.Answers.{refusedWith, spent};
-
-// Refusal k answers this and k.
-pub const REFUSED: u32 = 4294967040;
 
 const LAST_SERIAL: u32 = 4294967295;
 

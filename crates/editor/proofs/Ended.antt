@@ -13,13 +13,12 @@ use lib.Dec.{leb, ltb, eqb}
 use lib.ListN.{length, take, set}
 use borrow.Author.Tests.{not-true, not-false, eq-eqb, ne-eqb, lt-ltb, le-ltb, le-leb, lt-leb, ltb-true}
 use Rattle.grid.specs.Choice.{if_then_else_}
-use Rattle.grid.specs.Layout.{SIZE}
-use Rattle.grid.specs.Screen.{Row, Screen, at, noRow, rowAt, flagRow, setFlag, withCursor, withRows, moveTo, editable, isEmpty, trim}
+use Rattle.grid.specs.Screen.{Row, Screen, at, rowAt, flagRow, setFlag, withCursor, withRows, moveTo, editable, isEmpty, trim}
 use Rattle.grid.specs.Record.{rowOf, rowsOf, headOf, screenOf, Becomes, Leaves, Moves}
-use Rattle.grid.specs.Facts.{HeadFacts, Valid}
+use Rattle.grid.specs.Facts.{HeadFacts}
+use Rattle.grid.specs.declared.cursor.Cursor.{Cursor}
 use Rattle.grid.specs.declared.head.Head.{Head}
 use Rattle.grid.proofs.Bools.{and-left}
-use Rattle.grid.proofs.Rows.{getD-rows}
 use Rattle.grid.proofs.Validity.{head-is}
 use Rattle.line.specs.Line.{MAX-LOGICAL, startOf, endOf, rowText, reading, lineText}
 use Rattle.line.specs.Given.{Known, SpanIs}
@@ -144,14 +143,15 @@ module _ (l old : List ℕ) (h : Head) (copied : Copied l old) (ih : h ≡ headO
   unfolding apply rule ctrlEnter tooLong if_then_else_
   ctrl-held t k is y = rw (next k, sym is ∙ y) stays
 
-  pub ctrl-done : (t : Bool) (m : List ℕ) (g : Head) → h .cursor .row + 1 < e → t ≡ tooLong (screenOf old) → t ≡ false
-      → Becomes l m (set (rowsOf l) (h .cursor .row) (flagRow 1 (rowOf l (h .cursor .row)))) → g ≡ withCursor h (at (h .cursor .row + 1) 0)
+  pub ctrl-done : (t : Bool) (m : List ℕ) (g : Head) (c : Cursor) → h .cursor .row + 1 < e → t ≡ tooLong (screenOf old) → t ≡ false
+      → Becomes l m (set (rowsOf l) (h .cursor .row) (flagRow 1 (rowOf l (h .cursor .row)))) → c ≡ at (h .cursor .row + 1) 0
+      → g ≡ withCursor h c
       → Leaves (apply CtrlEnter (screenOf old)) l m g
   unfolding apply rule ctrlEnter tooLong if_then_else_ moveTo withRows
-  ctrl-done t m g k is n b eg =
+  ctrl-done t m g c k is n b ec eg =
       let f = subst HeadFacts (sym ih) (copied .valid .screen .head) in
       let r : h .cursor .row < 25 = omega arith in
-      rw (next k, sym is ∙ n, ← ih) (record { becomes = flag-left l m old (h .cursor .row) 1 (copied .copy) r b; head = eg })
+      rw (next k, sym is ∙ n, ← ih) (record { becomes = flag-left l m old (h .cursor .row) 1 (copied .copy) r b; head = eg ∙ ap (withCursor h) ec })
 
 -- ---- take_line: t is what on_blank_end has answered
 
@@ -182,11 +182,14 @@ module _ (l old : List ℕ) (h : Head) (copied : Copied l old) (ih : h ≡ headO
       let k : end - 1 < 25 = omega (arith, last-row) in
       rw (sym is ∙ y, d) (record { becomes = flag-left l m old (end - 1) 0 (copied .copy) k b; head = ih })
 
-  module _ (g : Head) (eg : g ≡ withCursor h (at end 0)) where
+  module _ (g : Head) (c : Cursor) (ec : c ≡ at end 0) (eg : g ≡ withCursor h c) where
+    at-end : g ≡ withCursor h (at end 0)
+    at-end = eg ∙ ap (withCursor h) ec
+
     pub end-facts : HeadFacts g
     end-facts =
         let f = head-facts in
-        rw eg (head-is _ (f .widths) (span .inside) (omega (arith, f .width-from)) (f .insert) (f .keys) (f .foreground) (f .background))
+        rw at-end (head-is _ (f .widths) (span .inside) (omega (arith, f .width-from)) (f .insert) (f .keys) (f .foreground) (f .background))
 
     pub take-next : (m : List ℕ) (u : Head) → t ≡ false → Leaves (nextRow (record { head = g; rows = rowsOf l })) l m u
         → Leaves (takeLine (screenOf old)) l m u
@@ -194,7 +197,7 @@ module _ (l old : List ℕ) (h : Head) (copied : Copied l old) (ih : h ≡ headO
     take-next m u n left =
         let d : endOf (screenOf old) (headOf old .cursor .row) ≡ end = sym (span .last ∙ ap (λ (x : Head). endOf (screenOf old) (x .cursor .row)) ih) in
         let e : (_≡_ {A = Screen} (record { head = g; rows = rowsOf l }) (record { head = withCursor (headOf old) (at end 0); rows = rowsOf old })) =
-        ap₂ (λ (x : Head) (y : List ℕ). record { head = x; rows = rowsOf y }) (eg ∙ ap (λ (x : Head). withCursor x (at end 0)) ih) (copied .copy) in
+        ap₂ (λ (x : Head) (y : List ℕ). record { head = x; rows = rowsOf y }) (at-end ∙ ap (λ (x : Head). withCursor x (at end 0)) ih) (copied .copy) in
         rw (sym is ∙ n, d) (subst (λ (x : Screen). Leaves (nextRow x) l m u) e left)
 
 -- ---- line_text, end_of_line: start to end is the span of the cursor's row, t its reading
@@ -220,15 +223,18 @@ module _ (l : List ℕ) (h : Head) (known : Known l h) (start end : ℕ) (span :
       let a : t .len / h .width ≤ t .len = div-le-self (t .len) (h .width) in
       record { fits = omega (arith, reads .fits, span .from, known .facts .row, known .facts .edit-to) }
 
-  pub end-inside : (g : Head) (e : ℕ) → e ≡ editable (h .keys) → start + t .len / h .width < e
-      → g ≡ withCursor h (at (start + t .len / h .width) (t .len % h .width)) → Moves (apply EndOfLine (screenOf l)) l g
+  pub end-inside : (g : Head) (c : Cursor) (e : ℕ) → e ≡ editable (h .keys) → start + t .len / h .width < e
+      → c ≡ at (start + t .len / h .width) (t .len % h .width) → g ≡ withCursor h c → Moves (apply EndOfLine (screenOf l)) l g
   unfolding apply rule endOfLine if_then_else_
-  end-inside g e ie k eg =
-      rw (count, start₀ l h known start end span, ← (known .head), lt-ltb (start + t .len / h .width) (editable (h .keys)) (omega arith)) (moved g _ _ eg)
+  end-inside g c e ie k ec eg =
+      rw (count, start₀ l h known start end span, ← (known .head), lt-ltb (start + t .len / h .width) (editable (h .keys)) (omega arith))
+      (moved g _ _ (eg ∙ ap (withCursor h) ec))
 
-  pub end-outside : (g : Head) (e : ℕ) → e ≡ editable (h .keys) → e ≤ start + t .len / h .width → g ≡ withCursor h (at (e - 1) (h .width - 1))
+  pub end-outside : (g : Head) (c : Cursor) (e : ℕ) → e ≡ editable (h .keys) → e ≤ start + t .len / h .width → c ≡ at (e - 1) (h .width - 1)
+      → g ≡ withCursor h c
       → Moves (apply EndOfLine (screenOf l)) l g
   unfolding apply rule endOfLine if_then_else_
-  end-outside g e ie k eg =
+  end-outside g c e ie k ec eg =
+      let eg′ : g ≡ withCursor h (at (e - 1) (h .width - 1)) = eg ∙ ap (withCursor h) ec in
       rw (count, start₀ l h known start end span, ← (known .head), le-ltb (start + t .len / h .width) (editable (h .keys)) (omega arith))
-      (moved g _ _ (rw ie at eg))
+      (moved g _ _ (rw ie at eg′))

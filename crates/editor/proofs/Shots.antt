@@ -15,6 +15,7 @@ use Rattle.grid.specs.Layout.{SIZE}
 use Rattle.grid.specs.Screen.{Row, rowAt, noRow, editable, isEmpty, trimBy}
 use Rattle.grid.specs.Record.{write, rowOf, rowsOf, screenOf}
 use Rattle.grid.specs.declared.head.Head.{Head}
+use Rattle.grid.proofs.Trim.{trim-out, trim-in}
 use Rattle.grid.proofs.Bools.{cases, pick, skip}
 use Rattle.grid.proofs.Window.{length-write, write-append, write-more, write-none}
 use Rattle.grid.proofs.Rows.{length-rows, full-row, write-front}
@@ -31,20 +32,6 @@ empty-append (x ∷ xs) ys e = refl
 -- ---- a list without its trailing elements that pass a test, one element at a time from the right
 
 module _ (p : ℕ → Bool) where
-  trim-out : (xs : List ℕ) (c : ℕ) → p c ≡ true → trimBy p (xs ++ (c ∷ [])) ≡ trimBy p xs
-  unfolding trimBy isEmpty if_then_else_
-  trim-out [] c e = rw e
-  trim-out (x ∷ xs) c e = rw (trim-out xs c e)
-
-  trim-in : (xs : List ℕ) (c : ℕ) → p c ≡ false → trimBy p (xs ++ (c ∷ [])) ≡ xs ++ (c ∷ [])
-  unfolding trimBy isEmpty if_then_else_
-  trim-in [] c e = rw e
-  trim-in (x ∷ xs) c e = rw (trim-in xs c e, empty-append xs (c ∷ []) refl) (choose (p x))
-    where
-      choose : (b : Bool) → (if b && false then [] else x ∷ (xs ++ (c ∷ []))) ≡ x ∷ (xs ++ (c ∷ []))
-      choose true = refl
-      choose false = refl
-
   -- what is left is the front
   trim-front : (xs : List ℕ) → take (length (trimBy p xs)) xs ≡ trimBy p xs
   unfolding trimBy if_then_else_

@@ -1,27 +1,29 @@
 -- Tab: a space typed leaves a valid record, and so do several; and the moves where insert is off.
 -- Assumes nothing.
-use Prim.Native.Nat.{ℕ, zero, suc, _+_, _-_, _*_, _/_, _≤_, _<_}
+use Prim.Native.Nat.{ℕ, suc, _+_, _-_, _*_, _/_, _≤_, _<_}
 use mathlib.Core.Path.{_≡_, refl, sym, ap, ap₂, _∙_, subst}
-use mathlib.Core.Bool.{Bool, true, false, not}
+use mathlib.Core.Bool.{Bool, true, false}
 use mathlib.Core.List.{List, _++_}
 use native.Mathlib.Omega.{arith}
 use lib.Dec.{ltb, eqb}
-use lib.ListN.{length, drop, length-append, length-drop}
+use lib.ListN.{length, drop, length-drop}
 use borrow.Author.Tests.{eq-eqb, ne-eqb, lt-ltb, le-ltb}
 use Rattle.grid.specs.Choice.{if_then_else_}
 use Rattle.grid.specs.Layout.{SIZE, FLAGS, MASKS}
 use Rattle.grid.specs.Screen.{Row, Screen, at, withCursor, moveTo, editable, attrOf, byteOf}
 use Rattle.grid.specs.Record.{rowsOf, headOf, screenOf, serialOf, touchedOf, frontBytes, rowsBytes, Leaves}
-use Rattle.grid.specs.Facts.{HeadFacts, RowsFacts, ScreenFacts, Valid}
-use Rattle.grid.specs.declared.attr.Attr.{Attr}
+use Rattle.grid.specs.Facts.{HeadFacts, HeadFits, RowsFacts, ScreenFacts, Valid}
 use Rattle.grid.specs.declared.cursor.Cursor.{Cursor}
 use Rattle.grid.specs.declared.head.Head.{Head}
+use Rattle.grid.proofs.Bools.{pick, skip, picked, skipped}
+use Rattle.grid.proofs.Validity.{head-fits}
 use Rattle.grid.proofs.Nibbles.{attr-back}
 use Rattle.grid.proofs.Record.{rows-bytes}
 use Rattle.grid.proofs.Bytes.{whole4, rows-back}
+use Rattle.line.specs.Given.{Known}
 use Rattle.editor.specs.Typing.{typeChar, sameCursor, typeSpaces, tab}
 use Rattle.editor.specs.Call.{TypeChar, Tab, inRange, rule, apply}
-use Rattle.editor.specs.Given.{Ends, SpaceTyped}
+use Rattle.editor.specs.Given.{Copied, Ends, SpaceTyped, tabbed}
 use Rattle.editor.proofs.KeptCall.{apply-facts}
 
 -- ---- a front written over rows is read back
@@ -52,7 +54,7 @@ module _ (h : Head) (serial touched : ℕ) (m n : List ℕ) (f : HeadFacts h) (r
       let w = whole4 touched (omega arith) in
       rw is
       (record {
-        size = simp (length-append, length-drop) (omega arith);
+        size = simp length-drop (omega arith);
         length-high = refl;
         length-low = refl;
         version = refl;
@@ -60,63 +62,107 @@ module _ (h : Head) (serial touched : ℕ) (m n : List ℕ) (f : HeadFacts h) (r
         screen = subst ScreenFacts (sym (ap screenOf (sym is) ∙ screen-back)) (record { head = f; rows = rows });
       })
 
+-- `put_head`
+pub head-put : (old m n : List ℕ) (g : Head) (serial touched : ℕ) → serial ≡ serialOf old → touched ≡ touchedOf old
+    → n ≡ frontBytes g serial touched ++ drop FLAGS m → n ≡ frontBytes g (serialOf old) (touchedOf old) ++ drop FLAGS m
+head-put old m n g serial touched es et e = e ∙ ap₂ (λ (x y : ℕ). frontBytes g x y ++ drop FLAGS m) es et
+
 -- ---- type_space: old is the copy of the record l, m what the key has left, n the record with its head
 
-pub space-typed : (l old m n : List ℕ) (g : Head) (serial touched : ℕ) → Valid l → old ≡ l → Leaves (apply (TypeChar 32) (screenOf old)) l m g
-    → touched ≡ touchedOf old → n ≡ frontBytes g serial touched ++ drop FLAGS m → SpaceTyped l n g
+pub space-typed : (l old m n : List ℕ) (g : Head) → Valid l → old ≡ l → Leaves (apply (TypeChar 32) (screenOf old)) l m g
+    → n ≡ frontBytes g (serialOf old) (touchedOf old) ++ drop FLAGS m → SpaceTyped l n g
 unfolding inRange apply rule
-space-typed l old m n g serial touched v copy left et is =
+space-typed l old m n g v copy left is =
     let s : Screen = typeChar (screenOf l) 32 in
     let left′ : Leaves s l m g = subst (λ (x : List ℕ). Leaves (typeChar (screenOf x) 32) l m g) copy left in
     let f : ScreenFacts s = apply-facts (TypeChar 32) (screenOf l) refl (v .screen) in
     let hf : HeadFacts g = subst HeadFacts (sym (left′ .head)) (f .head) in
     let rf : RowsFacts (g .width) 25 (rowsOf m) =
     subst (λ (x : Head). RowsFacts (x .width) 25 (rowsOf m)) (sym (left′ .head)) (subst (λ (x : List Row). RowsFacts (s .head .width) 25 x) (sym (left′ .becomes .rows)) (f .rows)) in
-    let t : touched < MASKS = omega (arith, v .touched, ap touchedOf copy) in
-    let back = screen-back g serial touched m n hf rf (left′ .becomes .size) is in
+    let t : touchedOf old < MASKS = omega (arith, v .touched, ap touchedOf copy) in
+    let back = screen-back g (serialOf old) (touchedOf old) m n hf rf (left′ .becomes .size) is in
     record {
-      valid = valid-back g serial touched m n hf rf (left′ .becomes .size) is t;
+      valid = valid-back g (serialOf old) (touchedOf old) m n hf rf (left′ .becomes .size) is t;
       screen = back ∙ (λ i. record { head = left′ .head i; rows = left′ .becomes .rows i });
       head = sym (ap (λ (x : Screen). x .head) back);
     }
 
--- ---- type_spaces: m is the record after one space, t says that the cursor has not moved
+pub space-copied : (l old : List ℕ) → Valid l → old ≡ l → Copied l old
+space-copied l old v e = record { size = v .size; copy = sym e; valid = subst Valid (sym e) v }
 
-pub spaces-none : (l : List ℕ) (h : Head) (n : ℕ) → Valid l → h ≡ headOf l → n ≡ 0 → Ends (typeSpaces n (screenOf l)) l h
-unfolding typeSpaces
-spaces-none l h n v ih z = rw z (record { size = v .size; rows = refl; head = ih })
+pub space-old : (l old : List ℕ) → Valid l → old ≡ l → length old ≡ SIZE
+space-old l old v e = ap length e ∙ v .size
 
-module _ (l m : List ℕ) (h g : Head) (n : ℕ) (t : Bool) (ih : h ≡ headOf l) (some : n ≡ 0 → ⊥) (typed : SpaceTyped l m g)
+pub space-fits : (l old m : List ℕ) (g : Head) → Valid l → old ≡ l → Leaves (apply (TypeChar 32) (screenOf old)) l m g → HeadFits g
+unfolding inRange rule
+space-fits l old m g v e left =
+    let f : ScreenFacts (apply (TypeChar 32) (screenOf old)) = apply-facts (TypeChar 32) (screenOf old) refl (subst Valid (sym e) v .screen) in
+    head-fits g (subst HeadFacts (sym (left .head)) (f .head))
+
+-- ---- same_cursor
+
+module _ (a b : Cursor) where
+  pub rows-same : a .row ≡ b .row → eqb (a .col) (b .col) ≡ sameCursor a b
+  unfolding sameCursor
+  rows-same e = rw (eq-eqb (a .row) (b .row) e)
+
+  pub rows-differ : (a .row ≡ b .row → ⊥) → eqb (a .row) (b .row) ≡ sameCursor a b
+  unfolding sameCursor
+  rows-differ ne = rw (ne-eqb (a .row) (b .row) ne)
+
+-- ---- type_spaces: from the record l₀, i of n spaces are typed, and what is left to type leads to the answer
+
+pub record Spaced (l₀ : List ℕ) (n : ℕ) (l : List ℕ) (i : ℕ) : Type 0 where
+  pub valid : Valid l
+  pub rest : typeSpaces (n - i) (screenOf l) ≡ typeSpaces n (screenOf l₀)
+
+pub spaced-start : (l : List ℕ) (n : ℕ) → Valid l → Spaced l n l 0
+spaced-start l n v =
+    let k : n - 0 ≡ n = omega arith in
+    record { valid = v; rest = ap (λ (x : ℕ). typeSpaces x (screenOf l)) k }
+
+-- m is the record after one more, t says that the cursor has not moved
+module _ (l₀ l m : List ℕ) (h g : Head) (n i : ℕ) (t : Bool) (more : i < n) (spaced : Spaced l₀ n l i) (known : Known l h) (typed : SpaceTyped l m g)
     (is : t ≡ sameCursor (h .cursor) (g .cursor)) where
   same : sameCursor (headOf l .cursor) (typeChar (screenOf l) 32 .head .cursor) ≡ t
   same =
-      ap₂ (λ (x y : Head). sameCursor (x .cursor) (y .cursor)) (sym ih) (sym (ap (λ (x : Screen). x .head) (typed .screen)) ∙ sym (typed .head)) ∙ sym is
+      ap₂ (λ (x y : Head). sameCursor (x .cursor) (y .cursor)) (sym (known .head)) (sym (ap (λ (x : Screen). x .head) (typed .screen)) ∙ sym (typed .head))
+      ∙ sym is
 
-  pub spaces-still : t ≡ true → Ends (typeSpaces n (screenOf l)) m g
-  unfolding typeSpaces if_then_else_
-  spaces-still e =
-      let k : n ≡ suc (n - 1) = omega arith in
-      rw (k, same ∙ e)
-      (record {
+  left : n - i ≡ suc (n - (i + 1))
+  left = omega arith
+
+  -- the next turn of the rule
+  turn : (if t then typeChar (screenOf l) 32 else typeSpaces (n - (i + 1)) (typeChar (screenOf l) 32)) ≡ typeSpaces n (screenOf l₀)
+  unfolding typeSpaces
+  turn =
+      sym (ap (λ (b : Bool). if b then typeChar (screenOf l) 32 else typeSpaces (n - (i + 1)) (typeChar (screenOf l) 32)) same)
+      ∙ sym (ap (λ (x : ℕ). typeSpaces x (screenOf l)) left) ∙ spaced .rest
+
+  pub spaced-still : t ≡ true → Ends (typeSpaces n (screenOf l₀)) m g
+  spaced-still e =
+      let s : typeChar (screenOf l) 32 ≡ typeSpaces n (screenOf l₀) = sym (pick t _ _ e) ∙ turn in
+      record {
         size = typed .valid .size;
-        rows = ap (λ (x : Screen). x .rows) (typed .screen);
-        head = typed .head ∙ ap (λ (x : Screen). x .head) (typed .screen);
-      })
+        rows = ap (λ (x : Screen). x .rows) (typed .screen ∙ s);
+        head = typed .head ∙ ap (λ (x : Screen). x .head) (typed .screen ∙ s);
+      }
 
-  pub spaces-more : (m′ : List ℕ) (g′ : Head) → t ≡ false → Ends (typeSpaces (n - 1) (screenOf m)) m′ g′ → Ends (typeSpaces n (screenOf l)) m′ g′
-  unfolding typeSpaces if_then_else_
-  spaces-more m′ g′ e ends =
-      let k : n ≡ suc (n - 1) = omega arith in
-      rw (k, same ∙ e) (subst (λ (x : Screen). Ends (typeSpaces (n - 1) x) m′ g′) (typed .screen) ends)
+  pub spaced-turn : t ≡ false → Spaced l₀ n m (i + 1)
+  spaced-turn e = record { valid = typed .valid; rest = ap (typeSpaces (n - (i + 1))) (typed .screen) ∙ sym (skip t _ _ e) ∙ turn }
+
+pub spaced-end : (l₀ l : List ℕ) (h : Head) (n i : ℕ) → i ≤ n → n ≤ i → Spaced l₀ n l i → Known l h → Ends (typeSpaces n (screenOf l₀)) l h
+unfolding typeSpaces
+spaced-end l₀ l h n i lo hi spaced known =
+    let k : 0 ≡ n - i = omega arith in
+    let s : screenOf l ≡ typeSpaces n (screenOf l₀) = ap (λ (x : ℕ). typeSpaces x (screenOf l)) k ∙ spaced .rest in
+    record { size = spaced .valid .size; rows = ap (λ (x : Screen). x .rows) s; head = known .head ∙ ap (λ (x : Screen). x .head) s }
 
 -- ---- tab
 
-module _ (l : List ℕ) (h : Head) (v : Valid l) (ih : h ≡ headOf l) where
-  facts : HeadFacts h
-  facts = subst HeadFacts (sym ih) (v .screen .head)
-
-  pub stop-low : h .cursor .col ≤ (h .cursor .col / 8 + 1) * 8
-  stop-low = omega arith
+module _ (l : List ℕ) (h : Head) (known : Known l h) where
+  ih : h ≡ headOf l
+  ih = known .head
 
   pub tab-typed : (m : List ℕ) (g : Head) → h .insert ≡ 1
       → Ends (typeSpaces ((h .cursor .col / 8 + 1) * 8 - h .cursor .col) (screenOf l)) m g → Ends (apply Tab (screenOf l)) m g
@@ -129,22 +175,34 @@ module _ (l : List ℕ) (h : Head) (v : Valid l) (ih : h ≡ headOf l) where
   off : (h .insert ≡ 1 → ⊥) → eqb (h .insert) 1 ≡ false
   off ne = ne-eqb _ _ ne
 
-  moved : (g : Head) (c : Cursor) → g ≡ withCursor h c → Ends (moveTo (record { head = h; rows = rowsOf l }) c) l g
-  unfolding moveTo
-  moved g c e = record { size = v .size; rows = refl; head = e }
+  pub tab-done : (g : Head) (c : Cursor) → (h .insert ≡ 1 → ⊥) → c ≡ tabbed h → g ≡ withCursor h c → Ends (apply Tab (screenOf l)) l g
+  unfolding apply rule tab tabbed if_then_else_ moveTo
+  tab-done g c i ec eg =
+      let e : g ≡ withCursor h (tabbed h) = eg ∙ ap (withCursor h) ec in
+      rw (← ih, off i) (go (ltb ((h .cursor .col / 8 + 1) * 8) (h .width)) (ltb (h .cursor .row + 1) (editable (h .keys))) refl refl e)
+    where
+      s : Screen
+      s = record { head = h; rows = rowsOf l }
 
-  pub tab-moved : (g : Head) → (h .insert ≡ 1 → ⊥) → (h .cursor .col / 8 + 1) * 8 < h .width
-      → g ≡ withCursor h (at (h .cursor .row) ((h .cursor .col / 8 + 1) * 8)) → Ends (apply Tab (screenOf l)) l g
-  unfolding apply rule tab if_then_else_
-  tab-moved g i k e = rw (← ih, off i, lt-ltb _ _ k) (moved g _ e)
+      go : (a b : Bool) → ltb ((h .cursor .col / 8 + 1) * 8) (h .width) ≡ a → ltb (h .cursor .row + 1) (editable (h .keys)) ≡ b
+          → g ≡ withCursor h (if a then at (h .cursor .row) ((h .cursor .col / 8 + 1) * 8) else if b then at (h .cursor .row + 1) 0 else h .cursor)
+          → Ends (if a then moveTo s (at (h .cursor .row) ((h .cursor .col / 8 + 1) * 8)) else if b then moveTo s (at (h .cursor .row + 1) 0) else s) l g
+      go true b ea eb e = record { size = known .size; rows = refl; head = e }
+      go false true ea eb e = record { size = known .size; rows = refl; head = e }
+      go false false ea eb e = record { size = known .size; rows = refl; head = e }
 
-  pub tab-next : (g : Head) (e : ℕ) → (h .insert ≡ 1 → ⊥) → h .width ≤ (h .cursor .col / 8 + 1) * 8 → e ≡ editable (h .keys) → h .cursor .row + 1 < e
-      → g ≡ withCursor h (at (h .cursor .row + 1) 0) → Ends (apply Tab (screenOf l)) l g
-  unfolding apply rule tab if_then_else_
-  tab-next g e i k ee r eg = rw (← ih, off i, le-ltb _ _ k, lt-ltb (h .cursor .row + 1) (editable (h .keys)) (omega arith)) (moved g _ eg)
+-- ---- tab_cursor
 
-  pub tab-stays : (e : ℕ) → (h .insert ≡ 1 → ⊥) → h .width ≤ (h .cursor .col / 8 + 1) * 8 → e ≡ editable (h .keys) → e ≤ h .cursor .row + 1
-      → Ends (apply Tab (screenOf l)) l h
-  unfolding apply rule tab if_then_else_
-  tab-stays e i k ee r =
-      rw (← ih, off i, le-ltb _ _ k, le-ltb (h .cursor .row + 1) (editable (h .keys)) (omega arith)) (record { size = v .size; rows = refl; head = refl })
+module _ (h : Head) where
+  pub tab-column : (c : Cursor) → (h .cursor .col / 8 + 1) * 8 < h .width → c ≡ at (h .cursor .row) ((h .cursor .col / 8 + 1) * 8) → c ≡ tabbed h
+  unfolding tabbed
+  tab-column c k e = picked _ _ _ _ (lt-ltb _ _ k) e
+
+  pub tab-row : (c : Cursor) (e : ℕ) → h .width ≤ (h .cursor .col / 8 + 1) * 8 → e ≡ editable (h .keys) → h .cursor .row + 1 < e
+      → c ≡ at (h .cursor .row + 1) 0 → c ≡ tabbed h
+  unfolding tabbed
+  tab-row c e k ie r ec = skipped _ _ _ _ (le-ltb _ _ k) (picked _ _ _ _ (lt-ltb (h .cursor .row + 1) (editable (h .keys)) (omega arith)) ec)
+
+  pub tab-nowhere : (e : ℕ) → h .width ≤ (h .cursor .col / 8 + 1) * 8 → e ≡ editable (h .keys) → e ≤ h .cursor .row + 1 → h .cursor ≡ tabbed h
+  unfolding tabbed
+  tab-nowhere e k ie r = skipped _ _ _ _ (le-ltb _ _ k) (skipped _ _ _ _ (le-ltb (h .cursor .row + 1) (editable (h .keys)) (omega arith)) refl)

@@ -10,10 +10,9 @@ use lib.Dec.{leb, ltb, eqb}
 use lib.ListN.{length, take, drop, set}
 use borrow.Author.Tests.{not-true, not-false, lt-ltb, le-ltb, le-leb, lt-leb, eq-eqb, ne-eqb}
 use Rattle.grid.specs.Choice.{if_then_else_}
-use Rattle.grid.specs.Layout.{SIZE}
 use Rattle.grid.specs.Screen.{printable, editable}
 use Rattle.grid.specs.Record.{rowsOf, headOf, screenOf, Leaves}
-use Rattle.grid.specs.Facts.{HeadFacts, Valid}
+use Rattle.grid.specs.Facts.{HeadFacts}
 use Rattle.grid.specs.declared.head.Head.{Head}
 use Rattle.line.specs.Line.{MAX-LOGICAL, startOf, endOf, content, index}
 use Rattle.line.specs.Splice.{splice}

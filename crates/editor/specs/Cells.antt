@@ -2,12 +2,7 @@
 -- Assumes nothing.
 use Prim.Native.Nat.{ℕ, _+_, _*_, _≤_, _<_}
 use mathlib.Core.Path.{_≡_}
-use mathlib.Core.List.{List}
-use lib.ListN.{length}
-use Rattle.grid.specs.Layout.{SIZE}
 use Rattle.grid.specs.Screen.{editable}
-use Rattle.grid.specs.Record.{headOf}
-use Rattle.grid.specs.Facts.{HeadFacts}
 use Rattle.grid.specs.declared.head.Head.{Head}
 
 -- n is the cell under the cursor of h, counted row by row

@@ -1,15 +1,17 @@
 -- What the functions of `editor` are given, and what some of them hand on: facts and names for contracts, beside the rules.
 -- Assumes nothing.
-use Prim.Native.Nat.{ℕ, _+_, _-_, _*_}
+use Prim.Native.Nat.{ℕ, _+_, _-_, _*_, _/_}
 use mathlib.Core.Path.{_≡_}
 use mathlib.Core.Bool.{Bool, _&&_}
 use mathlib.Core.List.{List}
 use lib.Dec.{ltb, eqb}
 use lib.ListN.{length}
 use Rattle.grid.specs.Layout.{SIZE}
-use Rattle.grid.specs.Screen.{Screen}
+use Rattle.grid.specs.Choice.{if_then_else_}
+use Rattle.grid.specs.Screen.{Screen, at, editable}
 use Rattle.grid.specs.Record.{rowsOf, headOf, screenOf}
 use Rattle.grid.specs.Facts.{Valid}
+use Rattle.grid.specs.declared.cursor.Cursor.{Cursor}
 use Rattle.grid.specs.declared.head.Head.{Head}
 use Rattle.line.specs.Line.{MAX-LOGICAL, startOf, endOf, reading}
 use Rattle.editor.specs.Print.{rowIsBlank}
@@ -32,6 +34,13 @@ pub record SpaceTyped (l l′ : List ℕ) (h : Head) : Type 0 where
   pub valid : Valid l′
   pub screen : screenOf l′ ≡ typeChar (screenOf l) 32
   pub head : h ≡ headOf l′
+
+-- where `tab` takes the cursor with insert off
+unfoldable pub tabbed : Head → Cursor
+tabbed h =
+    let r = h .cursor .row in
+    let t = (h .cursor .col / 8 + 1) * 8 in
+    if ltb t (h .width) then at r t else if ltb (r + 1) (editable (h .keys)) then at (r + 1) 0 else h .cursor
 
 -- the test that holds `ctrl_enter` back: the cursor is on its span's last row, and the line would be too long with the next one
 unfoldable pub tooLong : Screen → Bool

@@ -2,9 +2,11 @@
 //
 // A function here that does a call's work gets a valid record and hands the new head back: it writes rows, never the front. One that reads what it
 // overwrites gets a copy `old` of the record too.
+pub mod lines;
 pub mod modes;
 pub mod motion;
 pub mod print;
+pub mod tab;
 pub mod text;
 pub mod typing;
 pub mod words;

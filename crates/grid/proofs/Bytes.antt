@@ -4,12 +4,10 @@ use Prim.Native.Nat.{ℕ, zero, suc, _+_, _*_, _/_, _%_, _≤_, _<_}
 use mathlib.Core.Path.{_≡_, refl, sym, ap, _∙_}
 use mathlib.Core.Bool.{true}
 use mathlib.Core.List.{List, [], _∷_, _++_}
-use mathlib.Core.Logic.{⊎-elim}
-use native.Mathlib.Nat.{div-add-mod', le-of-suc-le-suc, not-suc-le-zero, eq-or-lt-of-le}
-use native.Mathlib.Numerals.{add-one}
+use native.Mathlib.Nat.{div-add-mod'}
 use native.Mathlib.Omega.{arith}
 use lib.ListN.{length, getD, take, drop, length-append, length-drop, List·getD-append}
-use lib.Seq.{take-at, getD-at, take-append-le, drop-append-le, drop-append-add, getD-append-add, ext-getD}
+use lib.Seq.{take-at, take-append-le, drop-append-le, drop-append-add, getD-append-add, ext-getD}
 use lib.Pow.{shr-shr}
 use borrow.Author.Tests.{lt-ltb, ltb-true}
 use Rattle.grid.specs.Layout.{SIZE, WIDTH, CURSOR_ROW, CURSOR_COL, INSERT, KEYS_ON, ATTR, SERIAL, TOUCHED, FLAGS, CHARS, ATTRS, MASKS}
@@ -21,6 +19,7 @@ use Rattle.grid.specs.Facts.{isByte, RowFacts, RowsFacts, ScreenFacts, S
 use Rattle.grid.proofs.Bools.{and-left, and-right, tests, every-at}
 use Rattle.grid.proofs.Nibbles.{attr-back, byte-back}
 use Rattle.grid.proofs.Record.{rows-bytes, heads-eq}
+use Rattle.grid.proofs.Rows.{length-tabulate, getD-tabulate}
 use Rattle.grid.proofs.Validity.{row-facts, screen-facts}
 
 -- ---- numbers of four bytes
@@ -124,23 +123,6 @@ module _ (front : List ℕ) (w : ℕ) (rows : List Row) (size : length front ≡
       ∙ window-after cs as′ (2000 + 80 * r) (80 * r) 80 (omega arith)
       ∙ blocks-at (λ (x : Row). x .attrs) w (λ x p. p .attrs80) rows r (f .valid) (omega (arith, f .count)) in
       λ i. record { flag = flag i; chars = chars i; attrs = attrs i }
-
--- ---- a table of values
-
-module _ {ℓ} {A : Type ℓ} (g : ℕ → A) where
-  pub length-tabulate : (n : ℕ) → length (tabulate g n) ≡ n
-  unfolding tabulate
-  length-tabulate zero = refl
-  length-tabulate (suc n) = length-append (tabulate g n) (g n ∷ []) ∙ ap (λ (k : ℕ). k + 1) (length-tabulate n) ∙ add-one n
-
-  pub getD-tabulate : (n i : ℕ) (d : A) → i < n → getD (tabulate g n) i d ≡ g i
-  unfolding tabulate
-  getD-tabulate zero i d h = absurd (not-suc-le-zero h)
-  getD-tabulate (suc n) i d h =
-      ⊎-elim
-      (λ (e : i ≡ n). rw e (getD-at (tabulate g n) (g n) [] d n (length-tabulate n)))
-      (λ (lt : i < n). List·getD-append (tabulate g n) (g n ∷ []) d i (rw length-tabulate lt) ∙ getD-tabulate n i d lt)
-      (eq-or-lt-of-le (le-of-suc-le-suc h))
 
 pub rows-back : (front : List ℕ) (w : ℕ) (rows : List Row) → length front ≡ FLAGS → RowsFacts w 25 rows → rowsOf (front ++ rowsBytes rows) ≡ rows
 unfolding rowsOf rowAt

@@ -13,6 +13,7 @@ use Rattle.grid.specs.declared.attr.Attr.{Attr}
 use Rattle.grid.specs.Screen.{Row, Screen, byteOf, normal, every, printable, zerob, padded, spaced, blankRow, lineRow, rowAt, flagRow, setFlag, newHead, newScreen, validRow}
 use Rattle.grid.specs.Facts.{HeadFacts, RowFacts, RowsFacts, ScreenFacts}
 use Rattle.grid.proofs.Bools.{cases, every-both, every-cons, every-take, every-drop, every-at, every-set, every-replicate}
+use Rattle.grid.proofs.Rows.{length-padded}
 use Rattle.grid.proofs.Validity.{width-from, width-to, editable-from, head-is, row-facts, row-valid}
 
 -- ---- lists of rows: the count goes along, so that in the end it is one `omega`
@@ -53,10 +54,6 @@ zeros n = every-replicate zerob n 0 refl
 pub spaces : (n : ℕ) → every printable (replicate n 32) ≡ true
 unfolding printable
 spaces n = every-replicate printable n 32 refl
-
-length-padded : (w v : ℕ) → w ≤ 80 → length (padded w v) ≡ 80
-unfolding padded
-length-padded w v h = simp (length-append, length-replicate) (omega arith)
 
 padded-rest : (w v : ℕ) → every zerob (drop w (padded w v)) ≡ true
 unfolding padded

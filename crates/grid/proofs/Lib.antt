@@ -15,3 +15,4 @@ pub mod Differing
 pub mod Record
 pub mod Bytes
 pub mod Steps
+pub mod Arrows

@@ -12,7 +12,7 @@ use Rattle.grid.specs.Choice.{if_then_else_}
 use Rattle.grid.specs.Screen.{isEmpty, trimBy, isSpace, trim}
 
 module _ (p : ℕ → Bool) where
-  trim-out : (xs : List ℕ) (c : ℕ) → p c ≡ true → trimBy p (xs ++ (c ∷ [])) ≡ trimBy p xs
+  pub trim-out : (xs : List ℕ) (c : ℕ) → p c ≡ true → trimBy p (xs ++ (c ∷ [])) ≡ trimBy p xs
   unfolding trimBy isEmpty if_then_else_
   trim-out [] c e = rw e
   trim-out (x ∷ xs) c e = rw (trim-out xs c e)
@@ -22,7 +22,7 @@ module _ (p : ℕ → Bool) where
   not-empty [] c = refl
   not-empty (x ∷ xs) c = refl
 
-  trim-in : (xs : List ℕ) (c : ℕ) → p c ≡ false → trimBy p (xs ++ (c ∷ [])) ≡ xs ++ (c ∷ [])
+  pub trim-in : (xs : List ℕ) (c : ℕ) → p c ≡ false → trimBy p (xs ++ (c ∷ [])) ≡ xs ++ (c ∷ [])
   unfolding trimBy isEmpty if_then_else_
   trim-in [] c e = rw e
   trim-in (x ∷ xs) c e = rw (trim-in xs c e, not-empty xs c) (pick (p x))

@@ -1,6 +1,7 @@
 -- Document 01, "What a call answers": the number of a refusal, and what a call leaves in a slice that it writes.
 -- Assumes nothing.
 use Prim.Native.Nat.{ℕ, _+_}
+use mathlib.Core.Path.{_≡_}
 use mathlib.Core.List.{List, _++_}
 use lib.ListN.{length, drop}
 use lib.Dec.{eqb}
@@ -14,6 +15,11 @@ refused k = 4294967040 + k
 pub record Written : Type 0 where
   pub number : ℕ
   pub bytes : List ℕ
+
+-- how a contract says so of a call: n is the number answered, and `bytes` what the slice holds at exit
+pub record Writes (o : Written) (n : ℕ) (bytes : List ℕ) : Type 0 where
+  pub number : n ≡ o .number
+  pub left : bytes ≡ o .bytes
 
 -- refusal k changes no lent byte; 0 is no refusal
 unfoldable pub unless : ℕ → List ℕ → Written → Written

@@ -1,5 +1,5 @@
 -- A valid screen, as facts: what a `requires` states, since `omega` reads the fields of a record by itself.
--- `validb` is the test that the code computes; `proofs/Valid.antt` has that the facts follow from it.
+-- `validb` is the test that the code computes; `proofs/Validity.antt` has that the facts follow from it.
 -- Assumes nothing.
 use Prim.Native.Nat.{ℕ, _/_, _%_, _≤_, _<_}
 use mathlib.Core.Path.{_≡_}

@@ -74,9 +74,10 @@ impl Cursor {
         requires { ⌜ self .row < e ⌝ }
         ensures { λ c. ⌜ c ≡ down e self ⌝ }
     {
-        if self.row + 1 < e {
+        let row = self.row;
+        if row + 1 < e {
             return Cursor {
-                row: self.row + 1,
+                row: row + 1,
                 col: self.col,
             };
         }

@@ -2,11 +2,13 @@
 // compared, a new one made; and the cursor and its moves.
 //
 // Only this crate speaks of a record's bytes: each contract of a public function is about `headOf`, `rowOf`, `rowsOf` and `stateBytes`.
+pub mod answer;
 pub mod attr;
 pub mod cursor;
 pub mod fresh;
 pub mod head;
 pub mod layout;
+pub mod lent;
 pub mod mask;
 pub mod part;
 pub mod row;

@@ -57,7 +57,7 @@ fn all_printable(rec: &[u8], at: usize, n: usize) -> bool
 }
 
 // Are the n bytes from index at on zero?
-fn all_zero(rec: &[u8], at: usize, n: usize) -> bool
+pub fn all_zero(rec: &[u8], at: usize, n: usize) -> bool
     requires { ⌜ (at + n ≤ length (now rec)) × (n ≤ 80) ⌝ }
     ensures { λ t. ⌜ t ≡ every zerob (window (now (rec .entry)) at n) ⌝ }
 {
@@ -86,7 +86,7 @@ fn row_ok(rec: &[u8], r: usize, w: usize) -> bool
     all_zero(rec, ATTRS + STRIDE * r + w, 80 - w)
 }
 
-fn width_ok(w: usize) -> bool
+pub fn width_ok(w: usize) -> bool
     ensures { λ t. ⌜ t ≡ widthb w ⌝ }
 {
     w == 40 || w == 80

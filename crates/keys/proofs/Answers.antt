@@ -10,13 +10,13 @@ use lib.Dec.{leb, eqb}
 use lib.ListN.{length}
 use borrow.Author.Tests.{not-true, not-false, leb-true, le-leb, lt-leb, eqb-true, eq-eqb, ne-eqb}
 use Rattle.grid.specs.Choice.{if_then_else_}
-use Rattle.grid.specs.Answer.{refused, Written, unless, wrote}
+use Rattle.grid.specs.Answer.{refused, Written, unless, wrote, Writes}
 use Rattle.grid.specs.Screen.{widthb}
 use Rattle.grid.specs.Record.{write}
 use Rattle.grid.proofs.Bools.{and-left, and-right, either, pick, skip, picked, skipped}
 use Rattle.grid.proofs.Validity.{width-cases, width-to}
 use Rattle.grid.proofs.Rows.{write-front}
-use Rattle.keys.specs.Keys.{TABLE_SIZE, tableb, macrosOf, lengthsOf, strip, fits, stripRefusal, stripping, Writes}
+use Rattle.keys.specs.Keys.{TABLE_SIZE, tableb, macrosOf, lengthsOf, strip, fits, stripRefusal, stripping}
 use Rattle.keys.specs.Facts.{Full}
 use Rattle.keys.proofs.Tables.{macros-full}
 use Rattle.keys.proofs.Slots.{length-slots}

@@ -11,12 +11,12 @@ use lib.ListN.{length, getD, drop, length-drop}
 use lib.Seq.{getD-drop}
 use borrow.Author.Tests.{leb-true, leb-false, eqb-true, eqb-false}
 use Rattle.grid.specs.Choice.{if_then_else_}
-use Rattle.grid.specs.Answer.{refused}
+use Rattle.grid.specs.Answer.{refused, Writes}
 use Rattle.grid.specs.Screen.{every, zerob, widthb}
 use Rattle.grid.proofs.Bools.{and-left, and-right, every-at}
 use Rattle.grid.proofs.Validity.{width-cases, cases-width}
 use Rattle.grid.proofs.Window.{length-window, getD-window}
-use Rattle.keys.specs.Keys.{TABLE_SIZE, KEY_SIZE, MACRO_LEN, lengthAt, macroAt, validKey, tenKeys, tableb, macrosOf, lengthsOf, fits, stripRefusal, stripping, Writes}
+use Rattle.keys.specs.Keys.{TABLE_SIZE, KEY_SIZE, MACRO_LEN, lengthAt, macroAt, validKey, tenKeys, tableb, macrosOf, lengthsOf, fits, stripRefusal, stripping}
 use Rattle.keys.specs.Refusals.{isWidth, WrongLength, BadKey, BrokenTable, OutOfRange, Exactly}
 use Rattle.keys.proofs.Tables.{ten-at, length-ten}
 use Rattle.keys.proofs.Answers.{firstOf, lengthsb, rangeb, fits-room, passed, strip-refused, strip-done}

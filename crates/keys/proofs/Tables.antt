@@ -16,7 +16,7 @@ use Rattle.grid.proofs.Bools.{every-not, every-snoc}
 use Rattle.grid.proofs.Window.{length-window}
 use Rattle.grid.proofs.Rows.{write-front}
 use Rattle.grid.proofs.Tests.{drop-window}
-use Rattle.grid.proofs.Bytes.{length-tabulate, getD-tabulate}
+use Rattle.grid.proofs.Rows.{length-tabulate, getD-tabulate}
 use Rattle.keys.specs.Keys.{TABLE_SIZE, KEY_SIZE, MACRO_LEN, lengthAt, macroAt, validKey, tenKeys, tableb, macrosOf, lengthsOf}
 use Rattle.keys.specs.Facts.{Full}
 

@@ -1,7 +1,6 @@
 -- Document 01, "Texts and key strip": the key table, the strip (`FunctionKeys::strip`), and what the strip call answers and leaves.
 -- Assumes nothing.
 use Prim.Native.Nat.{ℕ, zero, suc, _+_, _-_, _*_, _/_, _%_}
-use mathlib.Core.Path.{_≡_}
 use mathlib.Core.Bool.{Bool, true, not, _&&_, _||_}
 use mathlib.Core.List.{List, [], _∷_, _++_, map}
 use lib.Dec.{leb, ltb, eqb}
@@ -90,8 +89,3 @@ stripRefusal t offset width out =
 unfoldable pub stripping : List ℕ → ℕ → ℕ → List ℕ → Written
 stripping t offset width out =
     unless (stripRefusal t offset width out) out (wrote (strip (macrosOf t) (lengthsOf t) offset width) out)
-
--- the call answers the number n and leaves the bytes out′ in its output
-pub record Writes (o : Written) (n : ℕ) (out′ : List ℕ) : Type 0 where
-  pub number : n ≡ o .number
-  pub left : out′ ≡ o .bytes

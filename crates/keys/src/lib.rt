@@ -1,14 +1,13 @@
 // The key strip of document 01, "Texts and key strip": the soft-key macros of a key table, shown in 40 or 80 columns.
+use grid::answer::REFUSED;
 use grid::valid;
 ghost use mathlib.Core.Path.{_≡_};
 ghost use lib.ListN.{length};
-ghost use Rattle.keys.specs.Keys.{fits, stripRefusal, stripping, Writes};
+ghost use Rattle.grid.specs.Answer.{Writes};
+ghost use Rattle.keys.specs.Keys.{fits, stripRefusal, stripping};
 
 pub mod strip;
 pub mod table;
-
-// Refusal k answers this and k.
-const REFUSED: u32 = 4294967040;
 
 // Is the output exactly the width asked? A bad width is refusal 3, and the length is then not tested.
 fn fits(width: usize, len: usize) -> bool

@@ -1,7 +1,7 @@
 -- The editing content.
 -- Assumes nothing.
 use Prim.Native.Nat.{ℕ, zero, suc, _+_, _-_, _*_, _≤_, _<_, min, max}
-use mathlib.Core.Path.{_≡_, refl, sym, ap, _∙_}
+use mathlib.Core.Path.{_≡_, refl, sym, ap, ap₂, _∙_}
 use mathlib.Core.List.{List, _∷_, _++_}
 use native.Mathlib.Nat.{not-suc-le-zero, le-of-suc-le-suc}
 use native.Mathlib.Omega.{arith}
@@ -10,8 +10,7 @@ use lib.ListN.{length, take, drop, replicate, length-append, length-take, length
 use lib.Seq.{take-append-add}
 use mir.Syntax.{w64}
 use mir.Val.{Fits}
-use Rattle.grid.specs.Choice.{if_then_else_}
-use Rattle.grid.specs.Screen.{Screen, noRow, rowAt, trim, isSpace}
+use Rattle.grid.specs.Screen.{Row, Screen, noRow, rowAt, trim, isSpace}
 use Rattle.grid.specs.Record.{write, rowOf, rowsOf, screenOf}
 use Rattle.grid.specs.declared.head.Head.{Head}
 use Rattle.grid.proofs.Bools.{either}
@@ -75,16 +74,25 @@ module _ (l : List ℕ) (h : Head) (start end : ℕ) (known : Known l h) (sp : S
         unfolding index s
         index-is = rw (start-is l h (h .cursor .row) start end known sp) (sym ei)
 
+        last-row : getD (rowsOf l) end noRow ≡ rowOf l end
+        last-row = getD-rows l end noRow below
+
+        reach-is : reach s end ≡ last
+        unfolding reach rowText rowAt columnOn s
+        reach-is =
+            ap (λ (x : Row). max (length (trim (take (h .width) (x .chars)))) (columnOn (h .cursor .row) end (h .cursor .col))) last-row
+            ∙ ap₂ max (sym et) (sym ec) ∙ sym el
+
         content-is : content s ≡ lineFrom l start (h .width) n ++ replicate (idx - n) 32
-        unfolding content reach wholeRows rowText rowAt columnOn s
+        unfolding content wholeRows rowText rowAt s
         content-is =
             let w : ℕ = h .width in
-            let x : getD (rowsOf l) end noRow ≡ rowOf l end = getD-rows l end noRow below in
-            let c : take MAX-LOGICAL (joined w (take (end - start) (drop start (rowsOf l))) ++ take (max (length (trim (take w (rowOf l end .chars)))) (if eqb (h .cursor .row) end then h .cursor .col else 0)) (take w (rowOf l end .chars)))
-            ≡ lineFrom l start w n =
-            rw (← et, ← ec, ← el, en) (cut-from l start w (known .size) (omega arith) end last (omega arith) below last-to) in
+            let c : take MAX-LOGICAL (joined w (take (end - start) (drop start (rowsOf l))) ++ take last (take w (rowOf l end .chars))) ≡ lineFrom l start w n =
+            rw en (cut-from l start w (known .size) (omega arith) end last (omega arith) below last-to) in
             let size : length (lineFrom l start w n) ≡ n = length-from l start w (known .size) (omega arith) n content-fits in
-            rw (index-is, start-is l h (h .cursor .row) start end known sp, end-is l h (h .cursor .row) start end known sp, x, c, size)
+            let at-start = start-is l h (h .cursor .row) start end known sp in
+            let at-end = end-is l h (h .cursor .row) start end known sp in
+            rw (index-is, at-start, at-end, reach-is, last-row, c, size)
 
         pub content-end : (bytes : List ℕ) (m : ℕ) → bytes ≡ write (replicate MAX-LOGICAL 32) 0 (lineFrom l start (h .width) n) → m ≡ max n idx
             → Holds (record { bytes = bytes; len = m; index = idx }) (content (screenOf l)) (index (screenOf l))

@@ -50,9 +50,6 @@ module _ (rows new : List Row) (blank : Row) (p : Plan) (r : ℕ) where
     planned-line k = skip _ _ _ (le-ltb r (p .top) h) ∙ pick _ _ _ (lt-ltb r (p .top + p .lines) k)
 
     module _ (k : p .top + p .lines ≤ r) where
-      src : ℕ
-      src = p .next + (r - (p .top + p .lines))
-
       pub planned-below : p .next + (r - (p .top + p .lines)) < p .rows → plannedRow rows new blank p r ≡ rowAt rows (p .next + (r - (p .top + p .lines)))
       unfolding plannedRow
       planned-below q = skip _ _ _ (le-ltb r (p .top) h) ∙ skip _ _ _ (le-ltb r (p .top + p .lines) k) ∙ pick _ _ _ (lt-ltb (p .next + (r - (p .top + p .lines))) (p .rows) q)
@@ -95,6 +92,14 @@ line-at (suc k) w a cs (suc i) h =
     ∙ ap₂ (λ (f : ℕ) (l : List ℕ). lineRow w a f (take w l)) (flag-shift i k (suc i) (suc k) (λ q. omega arith) (λ q. omega arith))
     (drop-drop (i * w) w cs ∙ ap (λ (j : ℕ). drop j cs) (sym z))
 
+-- ---- move_row: the row is as it was, and has to be
+
+pub row-kept : (old l : List ℕ) (r src : ℕ) → length l ≡ SIZE → r < 25 → rowOf l r ≡ rowOf old r → src ≡ r
+    → Becomes l l (set (rowsOf l) r (rowOf old src))
+row-kept old l r src len h same e =
+    let g : getD (rowsOf l) r noRow ≡ rowOf old src = getD-rows l r noRow h ∙ same ∙ ap (rowOf old) (sym e) in
+    record { size = len; front = refl; rows = sym (ap (set (rowsOf l) r) (sym g) ∙ set-getD (rowsOf l) r noRow) }
+
 -- ---- write_row: what the code writes as the row r
 
 other-row : (l m : List ℕ) (r : ℕ) (x y : Row) → Becomes l m (set (rowsOf l) r x) → x ≡ y → Becomes l m (set (rowsOf l) r y)
@@ -105,34 +110,18 @@ module _ (old : List ℕ) (new : List Row) (blank : Row) (p : Plan) (r : ℕ) wh
   unfolding rowAt
   old-row k h = sym (getD-rows old k noRow h)
 
-  module _ (l : List ℕ) (len : length l ≡ SIZE) (inside : r < p .rows) (laid : Laid p) where
-    -- the row is as it was, and has to be
-    still : rowOf l r ≡ rowOf old r → rowOf old r ≡ plannedRow (rowsOf old) new blank p r → Becomes l l (set (rowsOf l) r (plannedRow (rowsOf old) new blank p r))
-    still same e =
-        let g : getD (rowsOf l) r noRow ≡ plannedRow (rowsOf old) new blank p r = getD-rows l r noRow (omega arith) ∙ same ∙ e in
-        record { size = len; front = refl; rows = sym (ap (set (rowsOf l) r) (sym g) ∙ set-getD (rowsOf l) r noRow) }
-
-    pub above-still : rowOf l r ≡ rowOf old r → r < p .top → p .over ≡ 0 → Becomes l l (set (rowsOf l) r (plannedRow (rowsOf old) new blank p r))
-    above-still same h z =
-        let q : r ≡ r + p .over = omega arith in
-        still same (old-row r (omega arith) ∙ ap (rowAt (rowsOf old)) q ∙ sym (planned-above (rowsOf old) new blank p r h))
-
-    pub above-moved : (m : List ℕ) → r < p .top → Becomes l m (set (rowsOf l) r (rowOf old (r + p .over)))
+  module _ (l m : List ℕ) (inside : r < p .rows) (laid : Laid p) where
+    pub above-moved : r < p .top → Becomes l m (set (rowsOf l) r (rowOf old (r + p .over)))
         → Becomes l m (set (rowsOf l) r (plannedRow (rowsOf old) new blank p r))
-    above-moved m h b = other-row l m r _ _ b (old-row (r + p .over) (omega arith) ∙ sym (planned-above (rowsOf old) new blank p r h))
+    above-moved h b = other-row l m r _ _ b (old-row (r + p .over) (omega arith) ∙ sym (planned-above (rowsOf old) new blank p r h))
 
-    pub below-still : rowOf l r ≡ rowOf old r → p .top ≤ r → p .top + p .lines ≤ r → p .next + (r - (p .top + p .lines)) ≡ r
-        → Becomes l l (set (rowsOf l) r (plannedRow (rowsOf old) new blank p r))
-    below-still same h k z =
-        still same (old-row r (omega arith) ∙ ap (rowAt (rowsOf old)) (sym z) ∙ sym (planned-below (rowsOf old) new blank p r h k (omega arith)))
-
-    pub below-moved : (m : List ℕ) → p .top ≤ r → p .top + p .lines ≤ r → p .next + (r - (p .top + p .lines)) < p .rows
+    pub below-moved : p .top ≤ r → p .top + p .lines ≤ r → p .next + (r - (p .top + p .lines)) < p .rows
         → Becomes l m (set (rowsOf l) r (rowOf old (p .next + (r - (p .top + p .lines))))) → Becomes l m (set (rowsOf l) r (plannedRow (rowsOf old) new blank p r))
-    below-moved m h k q b = other-row l m r _ _ b (old-row (p .next + (r - (p .top + p .lines))) (omega arith) ∙ sym (planned-below (rowsOf old) new blank p r h k q))
+    below-moved h k q b = other-row l m r _ _ b (old-row (p .next + (r - (p .top + p .lines))) (omega arith) ∙ sym (planned-below (rowsOf old) new blank p r h k q))
 
-    pub blank-put : (m : List ℕ) → p .top ≤ r → p .top + p .lines ≤ r → p .rows ≤ p .next + (r - (p .top + p .lines))
+    pub blank-put : p .top ≤ r → p .top + p .lines ≤ r → p .rows ≤ p .next + (r - (p .top + p .lines))
         → Becomes l m (set (rowsOf l) r blank) → Becomes l m (set (rowsOf l) r (plannedRow (rowsOf old) new blank p r))
-    blank-put m h k q b = other-row l m r _ _ b (sym (planned-blank (rowsOf old) new blank p r h k q))
+    blank-put h k q b = other-row l m r _ _ b (sym (planned-blank (rowsOf old) new blank p r h k q))
 
 -- the characters of a line's row: n of them, from index i on
 cut-window : (text : List ℕ) (x len w i n : ℕ) → i ≡ min x len → n ≡ min w (len - i) → window text i n ≡ take w (drop x (take len text))

@@ -20,7 +20,7 @@ fn column_on(row: usize, end: usize, col: usize) -> usize
     if row == end { col } else { 0 }
 }
 
-// Span is that of the cursor's row.
+// The characters and the index of the line under the cursor. Span is that of the cursor's row.
 pub fn content_and_cursor(rec: &[u8], h: Head, span: Span) -> Text
     requires { ⌜ Known (now rec) h × SpanIs (now rec) h (h .cursor .row) (span .start) (span .end) ⌝ }
     ensures { λ t. ⌜ Holds t (content (screenOf (now (rec .entry)))) (index (screenOf (now (rec .entry)))) ⌝ }
@@ -33,7 +33,7 @@ pub fn content_and_cursor(rec: &[u8], h: Head, span: Span) -> Text
     let last = larger(row::text_length(rec, end, w), column_on(row, end, col));
     let len = smaller(MAX_LOGICAL, (end - start) * w + last);
     let index = smaller(MAX_LOGICAL, (row - start) * w + col);
-    // Behind its characters are spaces: what pads it up to the index.
+    // Behind the characters stand spaces: so they are padded up to the index.
     let bytes = joined_rows(rec, start, w, len);
     Text {
         bytes: bytes,

@@ -24,8 +24,8 @@ pub struct Plan {
     pub rows: usize,
 }
 
-// The plan for a line of k rows in the place of a span, on a screen of e editable rows: what does not fit goes from the bottom of the rows after,
-// whose number no field has to say, then from the top of those before.
+// The plan for a line of k rows in the place of a span, of e editable rows. Above e rows, rows go from the bottom of those after: the plan ends
+// at e. Where the rows before and the line alone are above e, `over` of those before go from the top.
 pub fn plan_of(span: Span, k: usize, e: usize) -> Plan
     requires { ⌜ (span .start ≤ span .end) × (span .end < e) × (24 ≤ e) × (e ≤ 25) × (k ≤ 8) ⌝ }
     ensures { λ p. ⌜ p ≡ planOf (span .start) (span .end) k e ⌝ }
@@ -48,6 +48,17 @@ fn line_flag(r: usize, below: usize) -> u8
     if r + 1 == below { 0 } else { 1 }
 }
 
+// Makes the row r that of old's row src. It is still as in old, so that with src = r nothing is to be written.
+fn move_row(rec: &mut [u8], r: usize, old: &[u8], src: usize)
+    requires { ⌜ (length (now rec) ≡ SIZE) × (length (now old) ≡ SIZE) × (rowOf (now rec) r ≡ rowOf (now old) r) × (r < 25) × (src < 25) ⌝ }
+    ensures { λ _. ⌜ Becomes (now (rec .entry)) (now (rec .exit)) (set (rowsOf (now (rec .entry))) r (rowOf (now (old .entry)) src)) ⌝ }
+{
+    if src == r {
+        return;
+    }
+    row::copy_row(rec, r, old, src);
+}
+
 // Writes the row r by the plan, from the old rows and the first len bytes of a text. It is still as in old.
 fn write_row(
     rec: &mut [u8],
@@ -63,12 +74,8 @@ fn write_row(
     ensures { λ _. ⌜ Becomes (now (rec .entry)) (now (rec .exit)) (set (rowsOf (now (rec .entry))) r (plannedRow (rowsOf (now (old .entry))) (lineRows (p .lines) w attr (take len (now (text .entry)))) (blankRow w attr) p r)) ⌝ }
 {
     let top = p.top;
-    let over = p.over;
     if r < top {
-        if over == 0 {
-            return;
-        }
-        row::copy_row(rec, r, old, r + over);
+        move_row(rec, r, old, r + p.over);
         return;
     }
     let below = top + p.lines;
@@ -79,11 +86,8 @@ fn write_row(
         return;
     }
     let src = p.next + (r - below);
-    if src == r {
-        return;
-    }
     if src < p.rows {
-        row::copy_row(rec, r, old, src);
+        move_row(rec, r, old, src);
         return;
     }
     row::blank_row(rec, r, w, attr);

@@ -32,7 +32,8 @@ fn rows_for(w: usize, n: usize, i: usize) -> usize
     k + 1
 }
 
-// Span is that of the cursor's row. The new head is handed back.
+// Span is that of the cursor's row. The new head is handed back. (A sound text has at most 255 characters, and its index is among them or behind
+// the last: the Rust cuts both here.)
 pub fn splice_logical(rec: &mut [u8], old: &[u8], h: Head, span: Span, text: Text) -> Head
     requires { ⌜ Begun (now rec) (now old) h × SpanIs (now old) h (h .cursor .row) (span .start) (span .end) × Sound text ⌝ }
     ensures { λ r. ⌜ Leaves (splice (screenOf (now (old .entry))) (textOf text) (text .index)) (now (rec .entry)) (now (rec .exit)) r ⌝ }
@@ -41,8 +42,8 @@ pub fn splice_logical(rec: &mut [u8], old: &[u8], h: Head, span: Span, text: Tex
     let attr = h.attr;
     let i = text.index;
     let len = text.len;
-    let k = rows_for(w, len, i);
-    let p = plan::plan_of(span, k, head::editable_rows(h.keys));
+    let occupied = rows_for(w, len, i);
+    let p = plan::plan_of(span, occupied, head::editable_rows(h.keys));
     let bytes = text.bytes;
     plan::write_rows(rec, old, p, &bytes, len, w, attr);
     Head {
@@ -60,7 +61,7 @@ pub fn remove_line(rec: &mut [u8], old: &[u8], h: Head, span: Span) -> Head
     ensures { λ r. ⌜ Leaves (withoutRows (screenOf (now (old .entry))) (span .start) (span .end)) (now (rec .entry)) (now (rec .exit)) r ⌝ }
 {
     let attr = h.attr;
-    // A line of no rows needs no text.
+    // A line of no rows: none of the text, for which old stands in, is read.
     let p = plan::plan_of(span, 0, head::editable_rows(h.keys));
     plan::write_rows(rec, old, p, old, 0, h.width, attr);
     Head {

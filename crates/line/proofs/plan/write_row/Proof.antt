@@ -1,23 +1,20 @@
 -- `line::plan::write_row` meets its contract. Assumes nothing.
 use borrow.Author.Needs.{needs}
-use Rattle.line.proofs.Plans.{above-still, above-moved, below-still, below-moved, blank-put, line-put, line-fits}
+use Rattle.line.proofs.Plans.{above-moved, below-moved, blank-put, line-put, line-fits}
 use Rattle.line.proofs.plan.write_row.Statement.{statement}
 use Rattle.line.proofs.plan.write_row.Tie as tie
 
-returns : tie.Need-returns
-returns c = search (needs, above-still)
+add-move-row : tie.Need-add-move-row
+add-move-row c = search needs
 
-add-copy-row : tie.Need-add-copy-row
-add-copy-row c = search needs
-
-copy-row-requires : tie.Need-copy-row-requires
-copy-row-requires c κs = search needs
+move-row-requires : tie.Need-move-row-requires
+move-row-requires c κs = search needs
 
 same-length : tie.Need-same-length
 same-length c = search needs
 
-returns-2 : tie.Need-returns-2
-returns-2 c = search (needs, above-moved)
+returns : tie.Need-returns
+returns c = search (needs, above-moved)
 
 add-below : tie.Need-add-below
 add-below c = search needs
@@ -43,23 +40,20 @@ line-row-requires c κs = search needs
 same-length-2 : tie.Need-same-length-2
 same-length-2 c = search needs
 
-returns-3 : tie.Need-returns-3
-returns-3 c = search (needs, line-put)
+returns-2 : tie.Need-returns-2
+returns-2 c = search (needs, line-put)
 
 add-src : tie.Need-add-src
 add-src c = search needs
 
-returns-4 : tie.Need-returns-4
-returns-4 c = search (needs, below-still)
-
-copy-row-requires-2 : tie.Need-copy-row-requires-2
-copy-row-requires-2 c κs = search needs
+move-row-requires-2 : tie.Need-move-row-requires-2
+move-row-requires-2 c κs = search needs
 
 same-length-3 : tie.Need-same-length-3
 same-length-3 c = search needs
 
-returns-5 : tie.Need-returns-5
-returns-5 c = search (needs, below-moved)
+returns-3 : tie.Need-returns-3
+returns-3 c = search (needs, below-moved)
 
 blank-row-requires : tie.Need-blank-row-requires
 blank-row-requires c κs = search needs
@@ -67,18 +61,17 @@ blank-row-requires c κs = search needs
 same-length-4 : tie.Need-same-length-4
 same-length-4 c = search needs
 
-returns-6 : tie.Need-returns-6
-returns-6 c = search (needs, blank-put)
+returns-4 : tie.Need-returns-4
+returns-4 c = search (needs, blank-put)
 
 pub write-row-spec : {M : Type 1} → statement M
 write-row-spec =
     tie.close
     (tie.spec
-    returns
-    add-copy-row
-    copy-row-requires
+    add-move-row
+    move-row-requires
     same-length
-    returns-2
+    returns
     add-below
     mul-smaller
     smaller-requires
@@ -87,12 +80,11 @@ write-row-spec =
     line-flag-requires
     line-row-requires
     same-length-2
-    returns-3
+    returns-2
     add-src
-    returns-4
-    copy-row-requires-2
+    move-row-requires-2
     same-length-3
-    returns-5
+    returns-3
     blank-row-requires
     same-length-4
-    returns-6)
+    returns-4)

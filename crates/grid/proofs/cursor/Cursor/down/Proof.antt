@@ -8,8 +8,8 @@ use Rattle.grid.proofs.cursor.Cursor.down.Tie as tie
 add-if1 : tie.Need-add-if1
 add-if1 c = search needs
 
-add-t5 : tie.Need-add-t5
-add-t5 c = search needs
+add-t6 : tie.Need-add-t6
+add-t6 c = search needs
 
 returns : tie.Need-returns
 unfolding down
@@ -20,4 +20,4 @@ unfolding down
 returns-2 c = search (needs, choice)
 
 pub down-spec : {M : Type 1} → statement M
-down-spec = tie.close (tie.spec add-if1 add-t5 returns returns-2)
+down-spec = tie.close (tie.spec add-if1 add-t6 returns returns-2)

@@ -1,0 +1,46 @@
+-- `calls::modes::set_attr` meets its contract. Assumes nothing.
+use borrow.Author.Needs.{needs}
+use Rattle.calls.proofs.Changing.{call-size, call-valid, call-range, call-serial, byte-fits, call-refused, moves-fits, move-done}
+use Rattle.editor.specs.Call.{roomy, inRange, submitted, rule}
+use Rattle.calls.proofs.modes.set_attr.Statement.{statement}
+use Rattle.calls.proofs.modes.set_attr.Tie as tie
+
+change-refused-requires : tie.Need-change-refused-requires
+change-refused-requires c κs = search needs
+
+same-length : tie.Need-same-length
+same-length c = search needs
+
+returns : tie.Need-returns
+unfolding roomy inRange submitted rule
+returns c = search (needs, call-refused)
+
+cast-set-attr : tie.Need-cast-set-attr
+cast-set-attr c = search (needs, byte-fits, call-range)
+
+set-attr-requires : tie.Need-set-attr-requires
+set-attr-requires c κs = search (needs, call-valid)
+
+finish-move-requires : tie.Need-finish-move-requires
+unfolding roomy inRange submitted rule
+finish-move-requires c κs = (search (needs, call-size), search (needs, moves-fits), search (needs, call-serial))
+
+same-length-2 : tie.Need-same-length-2
+same-length-2 c = search needs
+
+returns-2 : tie.Need-returns-2
+unfolding roomy inRange submitted rule
+returns-2 c = search (needs, move-done)
+
+pub set-attr-spec : {M : Type 1} → statement M
+set-attr-spec =
+    tie.close
+    (tie.spec
+    change-refused-requires
+    same-length
+    returns
+    cast-set-attr
+    set-attr-requires
+    finish-move-requires
+    same-length-2
+    returns-2)

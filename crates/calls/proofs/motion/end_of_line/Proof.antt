@@ -1,0 +1,42 @@
+-- `calls::motion::end_of_line` meets its contract. Assumes nothing.
+use borrow.Author.Needs.{needs}
+use Rattle.calls.proofs.Changing.{call-size, call-valid, call-serial, call-refused, moves-fits, move-done}
+use Rattle.editor.specs.Call.{roomy, inRange, submitted, rule}
+use Rattle.calls.proofs.motion.end_of_line.Statement.{statement}
+use Rattle.calls.proofs.motion.end_of_line.Tie as tie
+
+change-refused-requires : tie.Need-change-refused-requires
+change-refused-requires c κs = search needs
+
+same-length : tie.Need-same-length
+same-length c = search needs
+
+returns : tie.Need-returns
+unfolding roomy inRange submitted rule
+returns c = search (needs, call-refused)
+
+end-of-line-requires : tie.Need-end-of-line-requires
+end-of-line-requires c κs = search (needs, call-valid)
+
+finish-move-requires : tie.Need-finish-move-requires
+unfolding roomy inRange submitted rule
+finish-move-requires c κs = (search (needs, call-size), search (needs, moves-fits), search (needs, call-serial))
+
+same-length-2 : tie.Need-same-length-2
+same-length-2 c = search needs
+
+returns-2 : tie.Need-returns-2
+unfolding roomy inRange submitted rule
+returns-2 c = search (needs, move-done)
+
+pub end-of-line-spec : {M : Type 1} → statement M
+end-of-line-spec =
+    tie.close
+    (tie.spec
+    change-refused-requires
+    same-length
+    returns
+    end-of-line-requires
+    finish-move-requires
+    same-length-2
+    returns-2)

@@ -1,0 +1,54 @@
+-- `calls::typing::ctrl_enter` meets its contract. Assumes nothing.
+use borrow.Author.Needs.{needs}
+use Rattle.calls.proofs.Changing.{call-size, copy-size, call-copied, copy-serial, call-refused, copied-fits, copied-done}
+use Rattle.editor.specs.Call.{roomy, inRange, submitted, rule}
+use Rattle.calls.proofs.typing.ctrl_enter.Statement.{statement}
+use Rattle.calls.proofs.typing.ctrl_enter.Tie as tie
+
+change-refused-requires : tie.Need-change-refused-requires
+change-refused-requires c κs = search needs
+
+same-length : tie.Need-same-length
+same-length c = search needs
+
+returns : tie.Need-returns
+unfolding roomy inRange submitted rule
+returns c = search (needs, call-refused)
+
+snapshot-requires : tie.Need-snapshot-requires
+snapshot-requires c κs = search (needs, call-size)
+
+slice-aggregate-ctrl-enter : tie.Need-slice-aggregate-ctrl-enter
+slice-aggregate-ctrl-enter c = search needs
+
+ctrl-enter-requires : tie.Need-ctrl-enter-requires
+ctrl-enter-requires c κs = search (needs, call-copied)
+
+slice-aggregate-finish : tie.Need-slice-aggregate-finish
+slice-aggregate-finish c = search needs
+
+finish-requires : tie.Need-finish-requires
+unfolding roomy inRange submitted rule
+finish-requires c κs = (search (needs, call-size), search (needs, copy-size), search (needs, copied-fits), search (needs, copy-serial))
+
+same-length-2 : tie.Need-same-length-2
+same-length-2 c = search needs
+
+returns-2 : tie.Need-returns-2
+unfolding roomy inRange submitted rule
+returns-2 c = search (needs, copied-done)
+
+pub ctrl-enter-spec : {M : Type 1} → statement M
+ctrl-enter-spec =
+    tie.close
+    (tie.spec
+    change-refused-requires
+    same-length
+    returns
+    snapshot-requires
+    slice-aggregate-ctrl-enter
+    ctrl-enter-requires
+    slice-aggregate-finish
+    finish-requires
+    same-length-2
+    returns-2)

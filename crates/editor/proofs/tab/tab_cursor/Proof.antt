@@ -1,0 +1,50 @@
+-- `editor::tab::tab_cursor` meets its contract. Assumes nothing.
+use borrow.Author.Needs.{needs}
+use Rattle.editor.proofs.Tabbed.{tab-column, tab-row, tab-nowhere}
+use Rattle.editor.proofs.tab.tab_cursor.Statement.{statement}
+use Rattle.editor.proofs.tab.tab_cursor.Tie as tie
+
+add-t : tie.Need-add-t
+add-t c = search needs
+
+mul-t : tie.Need-mul-t
+mul-t c = search needs
+
+new-requires : tie.Need-new-requires
+new-requires c κs = search needs
+
+returns : tie.Need-returns
+returns c = search (needs, tab-column)
+
+add-if2 : tie.Need-add-if2
+add-if2 c = search needs
+
+editable-rows-requires : tie.Need-editable-rows-requires
+editable-rows-requires c κs = search needs
+
+add-new : tie.Need-add-new
+add-new c = search needs
+
+new-requires-2 : tie.Need-new-requires-2
+new-requires-2 c κs = search needs
+
+returns-2 : tie.Need-returns-2
+returns-2 c = search (needs, tab-row)
+
+returns-3 : tie.Need-returns-3
+returns-3 c = search (needs, tab-nowhere)
+
+pub tab-cursor-spec : {M : Type 1} → statement M
+tab-cursor-spec =
+    tie.close
+    (tie.spec
+    add-t
+    mul-t
+    new-requires
+    returns
+    add-if2
+    editable-rows-requires
+    add-new
+    new-requires-2
+    returns-2
+    returns-3)

@@ -1,0 +1,91 @@
+// Tab: spaces typed while insert is on, else a move.
+use crate::motion::head_of;
+use crate::motion::with_cursor;
+use crate::typing::type_char;
+use grid::cursor::Cursor;
+use grid::head;
+use grid::head::Head;
+use grid::row;
+ghost use mathlib.Core.Path.{_≡_};
+ghost use mathlib.Core.List.{_++_};
+ghost use lib.ListN.{length, drop};
+ghost use Rattle.grid.specs.Layout.{SIZE, FLAGS};
+ghost use Rattle.grid.specs.Record.{screenOf, serialOf, touchedOf, frontBytes};
+ghost use Rattle.grid.specs.Facts.{HeadFacts, HeadFits, Valid};
+ghost use Rattle.editor.specs.Typing.{sameCursor, typeSpaces};
+ghost use Rattle.editor.specs.Call.{Tab, apply};
+ghost use Rattle.editor.specs.Given.{SpaceTyped, Ends, tabbed};
+
+fn same_cursor(a: Cursor, b: Cursor) -> bool
+    ensures { λ t. ⌜ t ≡ sameCursor a b ⌝ }
+{
+    a.row == b.row && a.col == b.col
+}
+
+// Writes the head g, with the serial and the touched rows of old.
+fn put_head(rec: &mut [u8], old: &[u8], g: Head)
+    requires { ⌜ (length (now rec) ≡ SIZE) × (length (now old) ≡ SIZE) × HeadFits g ⌝ }
+    ensures { λ _. ⌜ now (rec .exit) ≡ frontBytes g (serialOf (now (old .entry))) (touchedOf (now (old .entry))) ++ drop FLAGS (now (rec .entry)) ⌝ }
+{
+    let serial = head::read_serial(old);
+    let touched = head::read_touched(old);
+    head::write_front(rec, g, serial, touched);
+}
+
+// One space typed, after which the record is valid again: its head goes into it, with the serial and the touched rows that it had.
+fn type_space(rec: &mut [u8]) -> Head
+    requires { ⌜ Valid (now rec) ⌝ }
+    ensures { λ g. ⌜ SpaceTyped (now (rec .entry)) (now (rec .exit)) g ⌝ }
+{
+    let old = row::snapshot(rec);
+    let g = type_char(rec, &old, b' ');
+    put_head(rec, &old, g);
+    g
+}
+
+// n spaces, until one leaves the cursor still.
+fn type_spaces(rec: &mut [u8], n: usize) -> Head
+    requires { ⌜ Valid (now rec) ⌝ }
+    ensures { λ g. ⌜ Ends (typeSpaces n (screenOf (now (rec .entry)))) (now (rec .exit)) g ⌝ }
+{
+    let mut i = 0;
+    while i < n {
+        let h = head_of(rec);
+        let g = type_space(rec);
+        let before = h.cursor;
+        let after = g.cursor;
+        if same_cursor(before, after) {
+            return g;
+        }
+        i += 1;
+    }
+    head_of(rec)
+}
+
+// Where tab goes with insert off.
+fn tab_cursor(h: Head) -> Cursor
+    requires { ⌜ HeadFacts h ⌝ }
+    ensures { λ c. ⌜ c ≡ tabbed h ⌝ }
+{
+    let r = h.cursor.row;
+    let t = (h.cursor.col / 8 + 1) * 8;
+    if t < h.width {
+        return Cursor::new(r, t);
+    }
+    if r + 1 < head::editable_rows(h.keys) {
+        return Cursor::new(r + 1, 0);
+    }
+    h.cursor
+}
+
+pub fn tab(rec: &mut [u8]) -> Head
+    requires { ⌜ Valid (now rec) ⌝ }
+    ensures { λ g. ⌜ Ends (apply Tab (screenOf (now (rec .entry)))) (now (rec .exit)) g ⌝ }
+{
+    let h = head_of(rec);
+    let c = h.cursor.col;
+    if h.insert == 1 {
+        return type_spaces(rec, (c / 8 + 1) * 8 - c);
+    }
+    with_cursor(h, tab_cursor(h))
+}
