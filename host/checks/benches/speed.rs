@@ -1,0 +1,172 @@
+//! The archive's speed beside the Rust's, by criterion: `host/cargo bench -p checks`.
+//!
+//! One driver makes the same calls with the same inputs on both, in one run and one optimised build. No buffer is cleared or made anew
+//! between the turns of a measurement: each turn goes on with what the turn before has left.
+//! At the end the medians are set beside each other in a table; the figures that a call is held to are ratios.
+use checks::oracle::{new_record, screen::Screen};
+use criterion::{BenchmarkGroup, Criterion};
+use futonrobin::ffi;
+use std::hint::black_box;
+use std::path::{Path, PathBuf};
+use std::time::Duration;
+
+/// What the measured work asks of a screen.
+trait Driver {
+    fn new(width: u32) -> Self;
+    fn print(&mut self, bytes: &[u8]);
+    fn key(&mut self, ch: u8);
+    fn home(&mut self);
+    fn right(&mut self);
+    fn left(&mut self);
+    fn width(&self) -> u32;
+}
+
+/// A record, through the archive.
+struct Record(Vec<u8>);
+
+impl Driver for Record {
+    fn new(width: u32) -> Self {
+        Self(new_record(width))
+    }
+    fn print(&mut self, bytes: &[u8]) {
+        ffi::screen_print_bytes(&mut self.0, bytes);
+    }
+    fn key(&mut self, ch: u8) {
+        ffi::screen_type_char(&mut self.0, ch as u32);
+    }
+    fn home(&mut self) {
+        ffi::screen_home(&mut self.0);
+    }
+    fn right(&mut self) {
+        ffi::screen_move_right(&mut self.0);
+    }
+    fn left(&mut self) {
+        ffi::screen_move_left(&mut self.0);
+    }
+    fn width(&self) -> u32 {
+        ffi::screen_width(&self.0)
+    }
+}
+
+impl Driver for Screen {
+    fn new(width: u32) -> Self {
+        Screen::new(width as usize)
+    }
+    fn print(&mut self, bytes: &[u8]) {
+        self.print_bytes(bytes);
+    }
+    fn key(&mut self, ch: u8) {
+        self.type_char(ch);
+    }
+    fn home(&mut self) {
+        Screen::home(self);
+    }
+    fn right(&mut self) {
+        self.move_right();
+    }
+    fn left(&mut self) {
+        self.move_left();
+    }
+    fn width(&self) -> u32 {
+        Screen::width(self) as u32
+    }
+}
+
+/// 10,000 keys over a line of 255 characters; after each 255 keys the cursor goes home.
+fn overwrite(screen: &mut impl Driver) {
+    for k in 0..10_000 {
+        if k % 255 == 0 {
+            screen.home();
+        }
+        screen.key(b'A' + (k % 26) as u8);
+    }
+}
+
+/// There and back, so that the cursor does not come to rest at the screen's end.
+fn two_arrows(screen: &mut impl Driver) {
+    screen.right();
+    screen.left();
+}
+
+/// 10,000 program lines of 8 to 78 characters.
+fn listing() -> Vec<u8> {
+    let line = |k: usize| format!("{} PRINT \"{}\"\r\n", 10 * (k % 999 + 1), "WARD ".repeat(k % 14));
+    (1..=10_000).flat_map(|k| line(k).into_bytes()).collect()
+}
+
+type Group<'a> = BenchmarkGroup<'a, criterion::measurement::WallTime>;
+
+fn measure<D: Driver>(group: &mut Group, name: &str, width: u32, start: &[u8], mut work: impl FnMut(&mut D)) {
+    let mut screen = D::new(width);
+    screen.print(start);
+    group.bench_function(name, |bencher| bencher.iter(|| work(black_box(&mut screen))));
+}
+
+/// The same work on both, one after the other.
+macro_rules! both {
+    ($criterion:expr, $work:expr, $width:expr, $start:expr, $calls:expr) => {{
+        let mut group = $criterion.benchmark_group($work);
+        group.measurement_time(Duration::from_secs(4)).warm_up_time(Duration::from_secs(1)).sample_size(40);
+        measure::<Record>(&mut group, "archive", $width, $start, $calls);
+        measure::<Screen>(&mut group, "rust", $width, $start, $calls);
+        group.finish();
+    }};
+}
+
+/// A copy of a record into another.
+fn memcpy(criterion: &mut Criterion) {
+    let (from, mut to) = (new_record(80), new_record(40));
+    let mut group = criterion.benchmark_group("memcpy");
+    group.bench_function("record", |bencher| bencher.iter(|| black_box(&mut to).copy_from_slice(black_box(&from))));
+    group.finish();
+}
+
+fn main() {
+    let results = results();
+    let mut criterion = Criterion::default().without_plots().output_directory(&results);
+    let line = [b'A'; 255];
+    let listing = listing();
+    memcpy(&mut criterion);
+    for width in [80, 40] {
+        both!(criterion, format!("keys {width}"), width, &line, |screen| overwrite(screen));
+        both!(criterion, format!("listing {width}"), width, b"", |screen| screen.print(black_box(&listing)));
+        both!(criterion, format!("width {width}"), width, &listing[..3_000], |screen| {
+            black_box(screen.width());
+        });
+        both!(criterion, format!("arrows {width}"), width, &listing[..3_000], |screen| two_arrows(screen));
+    }
+    table(&results);
+}
+
+/// In cargo's target folder: the program itself is in target/release/deps.
+fn results() -> PathBuf {
+    let program = std::env::current_exe().expect("a program knows its own path");
+    program.ancestors().nth(3).expect("target/release/deps/ is above it").join("speed")
+}
+
+/// The median in nanoseconds that criterion has written.
+fn median(results: &Path, work: &str, side: &str) -> f64 {
+    let file = results.join(work).join(side).join("new/estimates.json");
+    let text = std::fs::read_to_string(&file).unwrap_or_else(|problem| panic!("{}: {problem}", file.display()));
+    let estimates: serde_json::Value = serde_json::from_str(&text).expect("criterion writes JSON");
+    estimates["median"]["point_estimate"].as_f64().expect("an estimate has a median")
+}
+
+fn table(results: &Path) {
+    let copy = median(results, "memcpy", "record");
+    println!("\nmedians, buffers not cleared; memcpy of a record: {copy:.0} ns\n");
+    println!("| work | width | archive, ns | Rust, ns | archive / Rust | archive / memcpy |\n|---|---|---|---|---|---|");
+    let works = [
+        ("keys", "10,000 keys overwriting a line of 255, a key", 10_000.0),
+        ("listing", "a listing of 10,000 lines in one call, a line", 10_000.0),
+        ("width", "`screen_width` on a valid record", 1.0),
+        ("arrows", "an arrow key", 2.0),
+    ];
+    for (work, what, times) in works {
+        for width in [80, 40] {
+            let [ours, rusts] = ["archive", "rust"].map(|side| median(results, &format!("{work} {width}"), side));
+            let (a, b) = (ours / times, rusts / times);
+            println!("| {what} | {width} | {a:.1} | {b:.1} | {:.2} | {:.1} |", a / b, a / copy);
+        }
+    }
+}

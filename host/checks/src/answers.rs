@@ -1,0 +1,196 @@
+//! The file of recorded answers: what the Rust answered to some hundred random lists, for a reader that allocates nothing.
+//!
+//! The file is a sequence of entries, one a call, with nothing before, between or after them. Numbers are big-endian. An entry has
+//! 20 bytes that are always there, and then the bytes of its input and of its text:
+//!
+//! | bytes | what |
+//! |---|---|
+//! | 0 | tag: which call |
+//! | 1–4 | first argument, else 0 |
+//! | 5–8 | second argument, else 0 |
+//! | 9–10 | i, the length of the input; not 0 only for `print_bytes` |
+//! | 11–14 | the number answered |
+//! | 15 | t, the length of the submitted text; not 0 only for `take_logical_line` |
+//! | 16–19 | digest |
+//! | 20 .. 20 + i | the input |
+//! | 20 + i .. 20 + i + t | the text |
+//!
+//! Tag 0 is `new` and begins a list, with the width as first argument. Tags 1 to 24 are the changing calls in the order of `Call`:
+//! 1 `print_bytes`, 2 `type_char`, .. 24 `set_keys_on`. Some arguments are out of range; the answer is then a refusal.
+//!
+//! The input has at most 512 bytes. The digest is taken over this entry's bytes 0 to 15, its input, its text, and the whole record after the
+//! call, in this order. It starts at 0, and with each byte h becomes (257 h + byte) mod 2,147,483,647, which does not overflow in 64 bits. The
+//! entry's own bytes are in it so that a changed byte is seen wherever it stands, in an unused argument too.
+use crate::call::{Call, Kind};
+use crate::judge;
+use crate::layout::*;
+use crate::lists::{self, List, Step};
+use crate::oracle::{self, Oracle};
+use crate::random::runner;
+use proptest::strategy::{Strategy, ValueTree};
+
+const FRONT: usize = 16;
+const HEAD: usize = 20;
+pub const LONGEST_INPUT: usize = 512;
+
+/// The digest of all these bytes, one part after the other.
+fn digest(parts: &[&[u8]]) -> u32 {
+    let step = |h: u64, &b: &u8| (h * 257 + b as u64) % 2_147_483_647;
+    parts.iter().copied().flatten().fold(0, step) as u32
+}
+
+/// The calls in the order of their tags. What an argument is here does not matter.
+fn by_tag() -> Vec<Call> {
+    crate::call::one_of_each().into_iter().filter(|call| matches!(call.kind(), Kind::New | Kind::Changing)).collect()
+}
+
+fn tag(call: &Call) -> u8 {
+    by_tag().iter().position(|other| other.name() == call.name()).expect("new and the changing calls have tags") as u8
+}
+
+fn arguments(call: &Call) -> (u32, u32) {
+    match *call {
+        Call::New(a) | Call::TypeChar(a) | Call::SetWidth(a) | Call::SetInsert(a) | Call::SetAttr(a) | Call::SetKeysOn(a) => (a, 0),
+        Call::SetCursor(a, b) => (a, b),
+        _ => (0, 0),
+    }
+}
+
+fn entry(call: &Call, answer: u32, text: &[u8], rec: &[u8]) -> Vec<u8> {
+    let (a, b) = arguments(call);
+    let input: &[u8] = if let Call::PrintBytes(bytes) = call { bytes } else { &[] };
+    assert!(input.len() <= LONGEST_INPUT && text.len() <= LINE);
+    let mut front = vec![tag(call)];
+    front.extend(a.to_be_bytes());
+    front.extend(b.to_be_bytes());
+    front.extend((input.len() as u16).to_be_bytes());
+    front.extend(answer.to_be_bytes());
+    front.push(text.len() as u8);
+    assert!(front.len() == FRONT);
+    let digest = digest(&[&front, input, text, rec]).to_be_bytes();
+    [&front, &digest[..], input, text].concat()
+}
+
+/// What was recorded.
+#[derive(Default)]
+pub struct Recording {
+    pub bytes: Vec<u8>,
+    pub lists: usize,
+    pub calls: usize,
+}
+
+/// Records random lists, by the Rust alone, as long as the file stays within `limit` bytes.
+pub fn record(seed: u64, limit: usize) -> Recording {
+    let (mut runner, strategy) = (runner(seed, 1), lists::short_lists());
+    let mut recording = Recording::default();
+    loop {
+        let list = strategy.new_tree(&mut runner).expect("the strategy rejects nothing").current();
+        let (bytes, calls) = record_list(&list);
+        if recording.bytes.len() + bytes.len() > limit {
+            return recording;
+        }
+        recording.bytes.extend(bytes);
+        recording.calls += calls;
+        recording.lists += 1;
+    }
+}
+
+fn record_list(list: &List) -> (Vec<u8>, usize) {
+    let mut screen = oracle::screen::Screen::new(list.width as usize);
+    let mut rec = oracle::new_record(list.width);
+    let mut bytes = entry(&Call::New(list.width), 0, &[], &rec);
+    let mut calls = 1;
+    for step in &list.steps {
+        let Step::Call(call) = step else { continue };
+        if judge::in_range(call, width(&rec)) {
+            let text = screen.change(call);
+            rec = oracle::record_after(&rec, &screen);
+            bytes.extend(entry(call, text.len() as u32, &text, &rec));
+        } else {
+            bytes.extend(entry(call, judge::refused(3), &[], &rec));
+        }
+        calls += 1;
+    }
+    (bytes, calls)
+}
+
+/// Replays a recording through the archive: the calls read, and the calls that differ.
+pub fn replay(bytes: &[u8]) -> Result<(usize, usize), String> {
+    let mut rec = vec![0; SIZE];
+    let (mut calls, mut differing) = (0, 0);
+    for entry in entries(bytes)? {
+        let mut out = vec![0; LINE];
+        let answer = entry.call()?.make(&mut rec, &mut out);
+        let as_recorded = answer == entry.number(11) && out.starts_with(entry.text()) && entry.digest(&rec) == entry.number(FRONT);
+        differing += !as_recorded as usize;
+        calls += 1;
+    }
+    Ok((calls, differing))
+}
+
+/// Asks the Rust the calls of a recording again: whether the file is what it answers.
+pub fn is_the_rusts(bytes: &[u8]) -> Result<bool, String> {
+    let mut lists: Vec<List> = Vec::new();
+    for entry in entries(bytes)? {
+        match (entry.call()?, lists.last_mut()) {
+            (Call::New(width), _) => lists.push(List { width, steps: Vec::new() }),
+            (call, Some(list)) => list.steps.push(Step::Call(call)),
+            (_, None) => return Err("no recording: it does not begin with a new screen".into()),
+        }
+    }
+    let again: Vec<u8> = lists.iter().flat_map(|list| record_list(list).0).collect();
+    Ok(again == bytes)
+}
+
+fn entries(bytes: &[u8]) -> Result<Vec<Entry<'_>>, String> {
+    let (mut entries, mut rest) = (Vec::new(), bytes);
+    while !rest.is_empty() {
+        let entry = Entry::first_of(rest).ok_or("no recording: it ends inside of an entry")?;
+        rest = &rest[entry.0.len()..];
+        entries.push(entry);
+    }
+    Ok(entries)
+}
+
+/// The bytes of one entry.
+struct Entry<'a>(&'a [u8]);
+
+impl<'a> Entry<'a> {
+    fn first_of(bytes: &'a [u8]) -> Option<Self> {
+        let head = Self(bytes.get(..HEAD)?);
+        let length = HEAD + head.input_length() + head.0[15] as usize;
+        bytes.get(..length).map(Self)
+    }
+
+    fn number(&self, at: usize) -> u32 {
+        u32::from_be_bytes(self.0[at..at + 4].try_into().expect("four bytes"))
+    }
+
+    fn input_length(&self) -> usize {
+        u16::from_be_bytes([self.0[9], self.0[10]]) as usize
+    }
+
+    /// What the digest is, if the call has left this record.
+    fn digest(&self, rec: &[u8]) -> u32 {
+        digest(&[&self.0[..FRONT], &self.0[HEAD..], rec])
+    }
+
+    fn text(&self) -> &[u8] {
+        &self.0[HEAD + self.input_length()..]
+    }
+
+    fn call(&self) -> Result<Call, String> {
+        let (a, b) = (self.number(1), self.number(5));
+        Ok(match by_tag().get(self.0[0] as usize).ok_or("no recording: no call has this tag")? {
+            Call::New(_) => Call::New(a),
+            Call::PrintBytes(_) => Call::PrintBytes(self.0[HEAD..HEAD + self.input_length()].to_vec()),
+            Call::TypeChar(_) => Call::TypeChar(a),
+            Call::SetWidth(_) => Call::SetWidth(a),
+            Call::SetCursor(..) => Call::SetCursor(a, b),
+            Call::SetInsert(_) => Call::SetInsert(a),
+            Call::SetAttr(_) => Call::SetAttr(a),
+            Call::SetKeysOn(_) => Call::SetKeysOn(a),
+            other => other.clone(),
+        })
+    }
+}

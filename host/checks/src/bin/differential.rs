@@ -1,0 +1,96 @@
+//! The differential runs: `differential [--seed NUMBER] [--soak MINUTES]`.
+//!
+//! It ends with a table, and with status 1 if anything differed or a named corner was never met. With `--soak` the random parts go on, each
+//! round with the seed after the last, until the minutes are over.
+use checks::tally::{add_round, report, Part, Tally};
+use checks::{examples, exhaustive, random, refusals};
+use std::hash::{BuildHasher, Hasher};
+use std::process::exit;
+use std::time::{Duration, Instant};
+
+struct Options {
+    seed: u64,
+    soak: Duration,
+}
+
+fn options() -> Options {
+    let mut options = Options { seed: new_seed(), soak: Duration::ZERO };
+    let mut words = std::env::args().skip(1);
+    while let Some(word) = words.next() {
+        let number = words.next().and_then(|number| number.parse::<u64>().ok());
+        match (word.as_str(), number) {
+            ("--seed", Some(seed)) => options.seed = seed,
+            ("--soak", Some(minutes)) => options.soak = Duration::from_secs(60 * minutes),
+            _ => {
+                eprintln!("differential: '{word}' was not understood; it takes --seed NUMBER and --soak MINUTES");
+                exit(2);
+            }
+        }
+    }
+    options
+}
+
+/// A hasher of the standard library is keyed from the system's randomness.
+fn new_seed() -> u64 {
+    std::collections::hash_map::RandomState::new().build_hasher().finish() >> 32
+}
+
+const RANDOM_LISTS: &str = "random lists from a new screen";
+const LISTS: u32 = 3_000;
+const RECORDS: u32 = 150_000;
+
+fn part(name: &'static str, run: impl FnOnce(&mut Tally) -> Result<(), String>) -> Part {
+    println!("{name} ..");
+    let part = Part::run(name, run);
+    if let Some(found) = &part.found {
+        println!("DIFFERENCE in {name}:\n{found}");
+    }
+    part
+}
+
+/// The parts that follow from the seed.
+fn random_parts(seed: u64) -> Vec<Part> {
+    println!("seed {seed}");
+    vec![
+        part(RANDOM_LISTS, |tally| random::random_lists(seed, LISTS, tally)),
+        part("single calls on random valid records", |tally| random::random_records(seed, RECORDS, tally)),
+        part("refusals: random damages, 10,000 a call", |tally| refusals::random_damage(seed, tally)),
+    ]
+}
+
+/// The parts that are the same in every run.
+fn fixed_parts() -> Vec<Part> {
+    vec![
+        part("document 01's starred examples", examples::starred),
+        part("every call from every place, 28 screens", exhaustive::every_place),
+        part("every class of arguments", exhaustive::every_argument),
+        part("refusals: lengths", refusals::every_length),
+        part("refusals: serials", refusals::serials),
+        part("refusals: order", refusals::order),
+        part("refusals: every byte, every other value", refusals::every_byte),
+    ]
+}
+
+fn main() {
+    let options = options();
+    let start = Instant::now();
+    let mut parts = random_parts(options.seed);
+    parts.extend(fixed_parts());
+    let mut round = 1;
+    while start.elapsed() < options.soak && parts.iter().all(|part| part.found.is_none()) {
+        add_round(&mut parts, random_parts(options.seed.wrapping_add(round)));
+        round += 1;
+    }
+    println!();
+    let held = report(&parts, RANDOM_LISTS);
+    println!("seed {}, rounds {round}, {:.0} s: {}", options.seed, start.elapsed().as_secs_f64(), verdict(held));
+    exit(!held as i32);
+}
+
+fn verdict(held: bool) -> &'static str {
+    if held {
+        "no difference"
+    } else {
+        "NOT AS WANTED"
+    }
+}

@@ -1,0 +1,107 @@
+//! What document 01 says a call answers and leaves, for every lent slice. The refusals are written here, from the document; what an
+//! accepted call does is the Rust's.
+use crate::call::{Call, Kind};
+use crate::layout::*;
+use crate::oracle::{self, Oracle};
+
+/// The number answered, and the final bytes of record and output.
+pub struct Outcome {
+    pub answer: u32,
+    pub rec: Vec<u8>,
+    pub out: Vec<u8>,
+}
+
+/// Refusal k as a number.
+pub fn refused(k: u32) -> u32 {
+    4_294_967_040 + k
+}
+
+/// The outcome of a call on the lent bytes `rec` and, where the call has an output, `out`.
+pub fn outcome(call: &Call, rec: &[u8], out: &[u8]) -> Outcome {
+    match refusal(call, rec, out) {
+        Some(k) => Outcome { answer: refused(k), rec: rec.to_vec(), out: out.to_vec() },
+        None => accepted(call, rec, out),
+    }
+}
+
+fn accepted(call: &Call, rec: &[u8], out: &[u8]) -> Outcome {
+    match call.kind() {
+        Kind::New => {
+            let Call::New(width) = *call else { unreachable!() };
+            Outcome { answer: 0, rec: oracle::new_record(width), out: out.to_vec() }
+        }
+        Kind::Changing => {
+            let mut screen = oracle::opened(rec);
+            let text = screen.change(call);
+            Outcome { answer: text.len() as u32, rec: oracle::record_after(rec, &screen), out: over(&text, out) }
+        }
+        Kind::Reading => Outcome { answer: oracle::opened(rec).read(call), rec: rec.to_vec(), out: out.to_vec() },
+        Kind::Text => {
+            let text = oracle::opened(rec).text(call);
+            Outcome { answer: text.len() as u32, rec: rec.to_vec(), out: over(&text, out) }
+        }
+    }
+}
+
+/// An output with a text written over its beginning; later bytes stay.
+pub fn over(text: &[u8], out: &[u8]) -> Vec<u8> {
+    let mut out = out.to_vec();
+    out[..text.len()].copy_from_slice(text);
+    out
+}
+
+/// The first refusal that applies, in document 01's order.
+pub fn refusal(call: &Call, rec: &[u8], out: &[u8]) -> Option<u32> {
+    if rec.len() != SIZE || out.len() < call.room() {
+        Some(1)
+    } else if call.kind() == Kind::New {
+        None
+    } else if !valid(rec) {
+        Some(2)
+    } else if !in_range(call, width(rec)) {
+        Some(3)
+    } else if call.kind() == Kind::Changing && serial(rec) == LAST_SERIAL {
+        Some(4)
+    } else {
+        None
+    }
+}
+
+/// Refusal 3: the arguments alone, on a screen of this width.
+pub fn in_range(call: &Call, width: usize) -> bool {
+    match *call {
+        Call::SetWidth(width) => width == 40 || width == 80,
+        Call::SetInsert(on) | Call::SetKeysOn(on) => on <= 1,
+        Call::TypeChar(ch) => ch <= 255,
+        Call::SetAttr(attr) => attr <= 255,
+        Call::Cell(row, col) => row <= 24 && (col as usize) < width,
+        Call::Continues(row) => row <= 24,
+        _ => true,
+    }
+}
+
+/// The layout of a record of the right length.
+pub fn valid(rec: &[u8]) -> bool {
+    valid_front(rec) && (0..ROWS).all(|row| valid_row(rec, row))
+}
+
+fn valid_front(rec: &[u8]) -> bool {
+    let switch = |b: u8| b <= 1;
+    length_field(rec) == SIZE
+        && rec[VERSION_AT] == VERSION
+        && (width(rec) == 40 || width(rec) == 80)
+        && switch(rec[INSERT_AT])
+        && switch(rec[KEYS_AT])
+        && cursor(rec).0 < editable(rec)
+        && cursor(rec).1 < width(rec)
+        && touched(rec) < 1 << 25
+}
+
+/// Folds and not `all`: without an early way out they are some times faster, and this runs millions of times.
+fn valid_row(rec: &[u8], row: usize) -> bool {
+    let (inside, beyond) = chars(rec, row).split_at(width(rec));
+    let beyond_too = &attrs(rec, row)[width(rec)..];
+    let zero = |bytes: &[u8]| bytes.iter().fold(0, |sum, b| sum | b) == 0;
+    let shown = inside.iter().fold(true, |ok, &b| ok & (b == 27 || b >= 32));
+    flag(rec, row) <= 1 && shown && zero(beyond) && zero(beyond_too)
+}

@@ -1,0 +1,138 @@
+//! The screen record of document 01, "The cell grid": where each field stands. The only file here that knows.
+
+pub const SIZE: usize = 4042;
+pub const LENGTH_AT: usize = 0;
+pub const VERSION_AT: usize = 2;
+pub const WIDTH_AT: usize = 3;
+pub const ROW_AT: usize = 4;
+pub const COLUMN_AT: usize = 5;
+pub const INSERT_AT: usize = 6;
+pub const KEYS_AT: usize = 7;
+pub const ATTR_AT: usize = 8;
+const SERIAL_AT: usize = 9;
+const TOUCHED_AT: usize = 13;
+const FLAGS_AT: usize = 17;
+const CHARS_AT: usize = 42;
+const ATTRS_AT: usize = 2042;
+
+/// The bytes before the cells.
+pub const FRONT: usize = CHARS_AT;
+
+pub const VERSION: u8 = 1;
+pub const ROWS: usize = 25;
+const STRIDE: usize = 80;
+
+/// The longest logical line, and the shortest output for one.
+pub const LINE: usize = 255;
+/// The shortest output for a snapshot.
+pub const SNAPSHOT: usize = 2024;
+/// A changing call that finds this serial is refused.
+pub const LAST_SERIAL: u32 = u32::MAX;
+
+pub fn width(rec: &[u8]) -> usize {
+    rec[WIDTH_AT] as usize
+}
+
+pub fn cursor(rec: &[u8]) -> (usize, usize) {
+    (rec[ROW_AT] as usize, rec[COLUMN_AT] as usize)
+}
+
+/// E, the number of rows that can be edited.
+pub fn editable(rec: &[u8]) -> usize {
+    ROWS - rec[KEYS_AT] as usize
+}
+
+fn number(rec: &[u8], at: usize) -> u32 {
+    u32::from_be_bytes([rec[at], rec[at + 1], rec[at + 2], rec[at + 3]])
+}
+
+fn set_number(rec: &mut [u8], at: usize, value: u32) {
+    rec[at..at + 4].copy_from_slice(&value.to_be_bytes());
+}
+
+pub fn serial(rec: &[u8]) -> u32 {
+    number(rec, SERIAL_AT)
+}
+
+pub fn set_serial(rec: &mut [u8], value: u32) {
+    set_number(rec, SERIAL_AT, value);
+}
+
+pub fn touched(rec: &[u8]) -> u32 {
+    number(rec, TOUCHED_AT)
+}
+
+pub fn set_touched(rec: &mut [u8], mask: u32) {
+    set_number(rec, TOUCHED_AT, mask);
+}
+
+pub fn length_field(rec: &[u8]) -> usize {
+    rec[LENGTH_AT] as usize * 256 + rec[LENGTH_AT + 1] as usize
+}
+
+/// Length and version, which every record has alike.
+pub fn set_front(rec: &mut [u8]) {
+    rec[LENGTH_AT..LENGTH_AT + 2].copy_from_slice(&(SIZE as u16).to_be_bytes());
+    rec[VERSION_AT] = VERSION;
+}
+
+pub fn flag(rec: &[u8], row: usize) -> u8 {
+    rec[FLAGS_AT + row]
+}
+
+pub fn set_flag(rec: &mut [u8], row: usize, flag: u8) {
+    rec[FLAGS_AT + row] = flag;
+}
+
+pub fn flagged(rec: &[u8], row: usize) -> bool {
+    flag(rec, row) != 0
+}
+
+/// All 80 characters of a row, those beyond the width included.
+pub fn chars(rec: &[u8], row: usize) -> &[u8] {
+    &rec[CHARS_AT + STRIDE * row..][..STRIDE]
+}
+
+pub fn chars_mut(rec: &mut [u8], row: usize) -> &mut [u8] {
+    &mut rec[CHARS_AT + STRIDE * row..][..STRIDE]
+}
+
+/// All 80 attributes of a row, those beyond the width included.
+pub fn attrs(rec: &[u8], row: usize) -> &[u8] {
+    &rec[ATTRS_AT + STRIDE * row..][..STRIDE]
+}
+
+pub fn attrs_mut(rec: &mut [u8], row: usize) -> &mut [u8] {
+    &mut rec[ATTRS_AT + STRIDE * row..][..STRIDE]
+}
+
+/// The characters of a row inside the width.
+pub fn text(rec: &[u8], row: usize) -> &[u8] {
+    &chars(rec, row)[..width(rec)]
+}
+
+const FIELDS: [(usize, &str); 13] = [
+    (LENGTH_AT, "length"),
+    (VERSION_AT, "version"),
+    (WIDTH_AT, "width"),
+    (ROW_AT, "cursor row"),
+    (COLUMN_AT, "cursor column"),
+    (INSERT_AT, "insert"),
+    (KEYS_AT, "keys on"),
+    (ATTR_AT, "current attribute"),
+    (SERIAL_AT, "serial"),
+    (TOUCHED_AT, "touched rows"),
+    (FLAGS_AT, "flag of row"),
+    (CHARS_AT, "character"),
+    (ATTRS_AT, "attribute"),
+];
+
+/// What the byte at `at` is, in words, for a message.
+pub fn name(at: usize) -> String {
+    let &(start, field) = FIELDS.iter().rev().find(|(start, _)| *start <= at).expect("the first field starts at 0");
+    match start {
+        FLAGS_AT => format!("{field} {}", at - start),
+        CHARS_AT | ATTRS_AT => format!("{field} ({}, {})", (at - start) / STRIDE, (at - start) % STRIDE),
+        _ => field.into(),
+    }
+}

@@ -1,0 +1,21 @@
+//! The archive against the Rust.
+//!
+//! `oracle` brings in the Rust and says what a record is that holds its screen; `judge` adds document 01's refusals, so that every call on
+//! every bytes has one wanted outcome; `trial` makes a call through the archive and compares. The runs are in `random`, `exhaustive`,
+//! `examples` and `refusals`; `answers` is the file of recorded answers.
+#![forbid(unsafe_code)]
+
+pub mod answers;
+pub mod call;
+pub mod corners;
+pub mod examples;
+pub mod exhaustive;
+pub mod judge;
+pub mod layout;
+pub mod lists;
+pub mod oracle;
+pub mod random;
+pub mod records;
+pub mod refusals;
+pub mod tally;
+pub mod trial;
