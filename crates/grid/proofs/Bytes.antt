@@ -174,7 +174,7 @@ unfolding isByte
 isByte-lt l i b h = ltb-true _ _ (every-at isByte l i 0 b h)
 
 -- the four bytes of a number that four bytes make
-four-back : (a b c d : ℕ) → a < 256 → b < 256 → c < 256 → d < 256
+pub four-back : (a b c d : ℕ) → a < 256 → b < 256 → c < 256 → d < 256
     → (number4 a b c d / 16777216 % 256 ≡ a) × (number4 a b c d / 65536 % 256 ≡ b) × (number4 a b c d / 256 % 256 ≡ c) × (number4 a b c d % 256 ≡ d)
 four-back a b c d ha hb hc hd =
     let n : ℕ = number4 a b c d in

@@ -8,10 +8,11 @@ use native.Mathlib.Omega.{arith}
 use lib.ListN.{length, getD, take, drop, set, length-drop, take-append-drop}
 use lib.Seq.{take-suc, take-add, take-all, drop-drop, drop-cons, getD-drop}
 use Rattle.grid.specs.Layout.{SIZE, VERSION, WIDTH, CURSOR_ROW, CURSOR_COL, INSERT, KEYS_ON, ATTR, SERIAL, TOUCHED, FLAGS, CHARS, ATTRS}
-use Rattle.grid.specs.Screen.{Row, byteOf}
-use Rattle.grid.specs.Record.{window, write, tabulate, rowOf, rowsOf, bytes4, frontBytes, flagBytes, blocks, charBytes, attrBytes, rowsBytes, stateBytes}
+use Rattle.grid.specs.Screen.{Row, at, attrOf, byteOf}
+use Rattle.grid.specs.Record.{window, write, tabulate, rowOf, rowsOf, headOf, bytes4, headBytes, frontBytes, flagBytes, blocks, charBytes, attrBytes, rowsBytes, stateBytes}
+use Rattle.grid.specs.declared.attr.Attr.{Attr}
 use Rattle.grid.specs.declared.head.Head.{Head}
-use Rattle.grid.proofs.Window.{write-none}
+use Rattle.grid.proofs.Window.{write-none, write-more, set-write}
 
 -- ---- the rows' bytes
 
@@ -93,6 +94,37 @@ four (a ∷ []) zero n h = absurd (omega arith)
 four (a ∷ b ∷ []) zero n h = absurd (omega arith)
 four (a ∷ b ∷ c ∷ []) zero n h = absurd (omega arith)
 four (a ∷ b ∷ c ∷ d ∷ l) zero n h = sym (rw (write-none l zero))
+
+-- `head_at`: w, r, c and a are what it has read of the width, the cursor and the attribute
+pub head-read : (l : List ℕ) (from w r c : ℕ) (a : Attr) → w ≡ getD l (from + WIDTH) 0 → r ≡ getD l (from + CURSOR_ROW) 0
+    → c ≡ getD l (from + CURSOR_COL) 0 → a ≡ attrOf (getD l (from + ATTR) 0)
+    → _≡_ {A = Head}
+    (record { width = w; cursor = at r c; insert = getD l (from + INSERT) 0; keys = getD l (from + KEYS_ON) 0; attr = a }) (headOf (drop from l))
+unfolding headOf
+head-read l from w r c a ew er ec ea =
+    let place : (i : ℕ) → getD l (from + i) 0 ≡ getD (drop from l) i 0 = λ i. sym (getD-drop from l i 0) in
+    λ i. record {
+      width = (ew ∙ place WIDTH) i;
+      cursor = at ((er ∙ place CURSOR_ROW) i) ((ec ∙ place CURSOR_COL) i);
+      insert = place INSERT i;
+      keys = place KEYS_ON i;
+      attr = (ea ∙ ap attrOf (place ATTR)) i;
+    }
+
+-- `put_head`
+pub headed : (l : List ℕ) (from byte : ℕ) (h : Head) → byte ≡ byteOf (h .attr)
+    → set (set (set (set (set (set l (from + WIDTH) (h .width)) (from + CURSOR_ROW) (h .cursor .row)) (from + CURSOR_COL) (h .cursor .col)) (from + INSERT) (h .insert)) (from + KEYS_ON) (h .keys)) (from + ATTR) byte ≡ write l (from + WIDTH) (headBytes h)
+headed l from byte h eb =
+    let a : ℕ = from + WIDTH in
+    let more : (s : List ℕ) (m : List ℕ) (i v : ℕ) → m ≡ write l a s → i ≡ a + length s → set m i v ≡ write l a (s ++ (v ∷ [])) =
+    λ s m i v e k. ap₂ (λ (x : List ℕ) (j : ℕ). set x j v) e k ∙ write-more l a s v in
+    let e₁ = set-write l a (h .width) in
+    let e₂ = more (h .width ∷ []) _ (from + CURSOR_ROW) (h .cursor .row) e₁ (omega arith) in
+    let e₃ = more (h .width ∷ h .cursor .row ∷ []) _ (from + CURSOR_COL) (h .cursor .col) e₂ (omega arith) in
+    let e₄ = more (h .width ∷ h .cursor .row ∷ h .cursor .col ∷ []) _ (from + INSERT) (h .insert) e₃ (omega arith) in
+    let e₅ = more (h .width ∷ h .cursor .row ∷ h .cursor .col ∷ h .insert ∷ []) _ (from + KEYS_ON) (h .keys) e₄ (omega arith) in
+    let e₆ = more (h .width ∷ h .cursor .row ∷ h .cursor .col ∷ h .insert ∷ h .keys ∷ []) _ (from + ATTR) (byteOf (h .attr)) e₅ (omega arith) in
+    rw eb e₆
 
 -- `write_front`
 pub fronted : (l m₁ m₂ : List ℕ) (h : Head) (byte serial touched : ℕ) → byte ≡ byteOf (h .attr) → length l ≡ SIZE

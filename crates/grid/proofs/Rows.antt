@@ -13,7 +13,7 @@ use lib.Seq.{ext-getD, drop-append-le, getD-at, getD-set-same, getD-set-other, t
 use Rattle.grid.specs.Layout.{SIZE, FLAGS, CHARS, ATTRS}
 use Rattle.grid.specs.declared.attr.Attr.{Attr}
 use Rattle.grid.specs.Screen.{Row, byteOf, padded, spaced, blankRow, lineRow, putCell, flagRow}
-use Rattle.grid.specs.Record.{window, write, rowOf, tabulate, rowsOf, Becomes}
+use Rattle.grid.specs.Record.{window, write, rowOf, rowFrom, tabulate, rowsOf, Becomes}
 use Rattle.grid.proofs.Window.{length-window, getD-window, window-set-after, window-set-before, window-set-in, length-write, take-write, getD-write-before, window-write-before, window-write-after, window-write-same, write-append}
 
 -- ---- a table of values
@@ -62,6 +62,11 @@ attr-read l r c h = sym (getD-window l (ATTRS + 80 * r) 80 c h)
 pub chars-window : (l : List ℕ) (r n at : ℕ) (o m : List ℕ) → n ≤ 80 → m ≡ write o at (window l (CHARS + 80 * r) n) → m ≡ write o at (take n (rowOf l r .chars))
 unfolding rowOf window
 chars-window l r n at o m h e = e ∙ ap (write o at) (sym (take-take n 80 (drop (CHARS + 80 * r) l) h))
+
+-- `copy_attrs`
+pub attrs-window : (l : List ℕ) (r n at : ℕ) (o m : List ℕ) → n ≤ 80 → m ≡ write o at (window l (ATTRS + 80 * r) n) → m ≡ write o at (take n (rowOf l r .attrs))
+unfolding rowOf window
+attrs-window l r n at o m h e = e ∙ ap (write o at) (sym (take-take n 80 (drop (ATTRS + 80 * r) l) h))
 
 -- one row is x, and the others are as they were
 pub rows-set : (l l′ : List ℕ) (r : ℕ) (x : Row) → r < 25 → rowOf l′ r ≡ x
@@ -242,6 +247,16 @@ module _ (l : List ℕ) (len : length l ≡ SIZE) where
       → Becomes l (set m₂ (FLAGS + dst) (getD old (FLAGS + src) 0)) (set (rowsOf l) dst (rowOf old src))
   unfolding rowOf putRow
   copied old m₁ m₂ src dst lo hs hd e₁ e₂ = rw (e₂, e₁) (put-becomes l dst (rowOf old src) len hd (full-row old src lo hs))
+
+  -- `put_row`
+  pub row-put : (src m₁ m₂ : List ℕ) (r f chars attrs : ℕ) → r < 25 → chars + 80 ≤ length src → attrs + 80 ≤ length src
+      → m₁ ≡ write l (CHARS + 80 * r) (window src chars 80) → m₂ ≡ write m₁ (ATTRS + 80 * r) (window src attrs 80)
+      → Becomes l (set m₂ (FLAGS + r) f) (set (rowsOf l) r (rowFrom f src chars attrs))
+  unfolding rowFrom putRow
+  row-put src m₁ m₂ r f chars attrs h hc ha e₁ e₂ =
+      rw (e₂, e₁)
+      (put-becomes l r (rowFrom f src chars attrs) len h
+      (record { chars80 = length-window src chars 80 hc; attrs80 = length-window src attrs 80 ha }))
 
   pub lined : (text m₁ m₂ : List ℕ) (r w byte f from n : ℕ) (attr : Attr) → byte ≡ byteOf attr → r < 25 → w ≤ 80 → n ≤ w → from + n ≤ length text
       → m₁ ≡ write l (CHARS + 80 * r) (spaced w (window text from n)) → m₂ ≡ write m₁ (ATTRS + 80 * r) (padded w byte)

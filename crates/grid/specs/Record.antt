@@ -51,6 +51,10 @@ fourAt l i = number4 (getD l i 0) (getD l (i + 1) 0) (getD l (i + 2) 0) (getD l 
 unfoldable pub rowOf : List ℕ → ℕ → Row
 rowOf l r = record { flag = getD l (FLAGS + r) 0; chars = window l (CHARS + 80 * r) 80; attrs = window l (ATTRS + 80 * r) 80 }
 
+-- the row of a flag, and of characters and attributes that stand in another list
+unfoldable pub rowFrom : ℕ → List ℕ → ℕ → ℕ → Row
+rowFrom flag src chars attrs = record { flag = flag; chars = window src chars 80; attrs = window src attrs 80 }
+
 unfoldable pub rowsOf : List ℕ → List Row
 rowsOf l = tabulate (rowOf l) 25
 

@@ -13,12 +13,13 @@ use crate::layout::VERSION;
 use crate::layout::WIDTH;
 use crate::part;
 ghost use mathlib.Core.Path.{_≡_};
+ghost use Prim.Native.Nat.{_+_, _≤_};
 ghost use mathlib.Core.List.{_++_};
 ghost use lib.ListN.{length, drop};
-ghost use Rattle.grid.specs.Layout.{SIZE, FLAGS};
+ghost use Rattle.grid.specs.Layout.{SIZE, WIDTH, FLAGS};
 ghost use Rattle.grid.specs.Screen.{editable};
 ghost use Rattle.grid.specs.Facts.{HeadFits};
-ghost use Rattle.grid.specs.Record.{headOf, number4, serialOf, touchedOf, frontBytes};
+ghost use Rattle.grid.specs.Record.{write, headOf, headBytes, number4, serialOf, touchedOf, frontBytes};
 
 pub struct Head {
     pub width: usize,
@@ -55,6 +56,38 @@ pub fn read_head(rec: &[u8]) -> Head
         keys: rec[KEYS_ON],
         attr: Attr::new(rec[ATTR]),
     }
+}
+
+// The head in the six bytes that stand where those of a record would that began at index from.
+pub fn head_at(src: &[u8], from: usize) -> Head
+    requires { ⌜ from + 9 ≤ length (now src) ⌝ }
+    ensures { λ h. ⌜ h ≡ headOf (drop from (now (src .entry))) ⌝ }
+{
+    Head {
+        width: wide(src[from + WIDTH]),
+        cursor: Cursor {
+            row: wide(src[from + CURSOR_ROW]),
+            col: wide(src[from + CURSOR_COL]),
+        },
+        insert: src[from + INSERT],
+        keys: src[from + KEYS_ON],
+        attr: Attr::new(src[from + ATTR]),
+    }
+}
+
+// Writes the head h there.
+pub fn put_head(dst: &mut [u8], from: usize, h: Head)
+    requires { ⌜ (from + 9 ≤ length (now dst)) × HeadFits h ⌝ }
+    ensures { λ _. ⌜ now (dst .exit) ≡ write (now (dst .entry)) (from + WIDTH) (headBytes h) ⌝ }
+{
+    let attr = h.attr;
+    let byte = attr.byte();
+    dst[from + WIDTH] = h.width as u8;
+    dst[from + CURSOR_ROW] = h.cursor.row as u8;
+    dst[from + CURSOR_COL] = h.cursor.col as u8;
+    dst[from + INSERT] = h.insert;
+    dst[from + KEYS_ON] = h.keys;
+    dst[from + ATTR] = byte;
 }
 
 pub fn read_serial(rec: &[u8]) -> u32

@@ -12,7 +12,7 @@ ghost use mathlib.Core.List.{_++_};
 ghost use lib.ListN.{length, getD, take, drop, set, replicate};
 ghost use Rattle.grid.specs.Layout.{SIZE};
 ghost use Rattle.grid.specs.Screen.{blankRow, lineRow, putCell, flagRow, scrolled, trim};
-ghost use Rattle.grid.specs.Record.{window, write, rowOf, rowsOf, Becomes};
+ghost use Rattle.grid.specs.Record.{window, write, rowOf, rowFrom, rowsOf, Becomes};
 
 pub fn flag_at(rec: &[u8], r: usize) -> u8
     requires { ⌜ (length (now rec) ≡ SIZE) × (r < 25) ⌝ }
@@ -56,6 +56,24 @@ pub fn copy_chars(out: &mut [u8], at: usize, rec: &[u8], r: usize, n: usize)
     ensures { λ _. ⌜ now (out .exit) ≡ write (now (out .entry)) at (take n (rowOf (now (rec .entry)) r .chars)) ⌝ }
 {
     part::copy_in(out, at, rec, CHARS + STRIDE * r, n);
+}
+
+// Copies the first n attributes of the row r to index at of out.
+pub fn copy_attrs(out: &mut [u8], at: usize, rec: &[u8], r: usize, n: usize)
+    requires { ⌜ (length (now rec) ≡ SIZE) × (r < 25) × (n ≤ 80) × (at + n ≤ length (now out)) ⌝ }
+    ensures { λ _. ⌜ now (out .exit) ≡ write (now (out .entry)) at (take n (rowOf (now (rec .entry)) r .attrs)) ⌝ }
+{
+    part::copy_in(out, at, rec, ATTRS + STRIDE * r, n);
+}
+
+// Makes the row r that of the flag given, the 80 characters of src from index chars on and its 80 attributes from index attrs on.
+pub fn put_row(rec: &mut [u8], r: usize, flag: u8, src: &[u8], chars: usize, attrs: usize)
+    requires { ⌜ (length (now rec) ≡ SIZE) × (r < 25) × (chars + 80 ≤ length (now src)) × (attrs + 80 ≤ length (now src)) ⌝ }
+    ensures { λ _. ⌜ Becomes (now (rec .entry)) (now (rec .exit)) (set (rowsOf (now (rec .entry))) r (rowFrom flag (now (src .entry)) chars attrs)) ⌝ }
+{
+    part::copy_in(rec, CHARS + STRIDE * r, src, chars, 80);
+    part::copy_in(rec, ATTRS + STRIDE * r, src, attrs, 80);
+    rec[FLAGS + r] = flag;
 }
 
 // Copies the row src of the record old, its flag and its attributes with it, over the row dst.

@@ -43,7 +43,7 @@ fn nonzero(c: u8) -> u8
 }
 
 // Are the n bytes from index at on characters that a cell may hold?
-fn all_printable(rec: &[u8], at: usize, n: usize) -> bool
+pub fn all_printable(rec: &[u8], at: usize, n: usize) -> bool
     requires { ⌜ (at + n ≤ length (now rec)) × (n ≤ 80) ⌝ }
     ensures { λ t. ⌜ t ≡ every printable (window (now (rec .entry)) at n) ⌝ }
 {
@@ -98,7 +98,7 @@ fn attr_ok(a: Attr) -> bool
     a.foreground < 16 && a.background < 16
 }
 
-fn head_ok(h: head::Head) -> bool
+pub fn head_ok(h: head::Head) -> bool
     ensures { λ t. ⌜ t ≡ validHead h ⌝ }
 {
     if !width_ok(h.width) {

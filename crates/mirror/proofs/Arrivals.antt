@@ -19,7 +19,9 @@ use Rattle.grid.proofs.Bools.{either, skip}
 use Rattle.grid.proofs.Validity.{screen-facts, head-valid}
 use Rattle.mirror.specs.Layout.{ALL-ROWS, MIRROR-SIZE}
 use Rattle.mirror.specs.Report.{Kind, Step, Full, Report, bits, maskOf, maskFits, reportOf, reportBytes, readReport}
-use Rattle.mirror.specs.Mirror.{Mirror, dueAt, due, widthWithoutRows, shown, noted, applied, mirrorBytes, readMirror, Arrived, Refused, Noted, Applied, arrived, leaving, arrivedOutcome, arrival}
+use Rattle.mirror.specs.Mirror.{Mirror, dueAt, due, widthWithoutRows, shown, noted, applied, mirrorBytes, readMirror, arrived, leaving, arrivedOutcome, arrival}
+use Rattle.mirror.specs.declared.arrive.Arrived.{Arrived}
+use Rattle.mirror.specs.declared.arrive.Arrived.the-variants.{Refused, Noted, Applied}
 use Rattle.mirror.specs.Count.{Count, counted}
 use Rattle.mirror.specs.Demand3.{Run, isRefusal, screenAfter}
 use Rattle.mirror.proofs.Masks.{Covers, merge-carry, every-carry, length-carry}

@@ -28,7 +28,7 @@ whole2 n h = omega arith
 
 -- ---- the rows of a report
 
-length-carried : (w : ℕ) (rows : List Row) → every (validRow w) rows ≡ true → length (carriedBytes rows) ≡ ROW-SIZE * length rows
+pub length-carried : (w : ℕ) (rows : List Row) → every (validRow w) rows ≡ true → length (carriedBytes rows) ≡ ROW-SIZE * length rows
 unfolding carriedBytes every
 length-carried w [] v = omega arith
 length-carried w (x ∷ rows) v =

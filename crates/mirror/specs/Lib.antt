@@ -3,4 +3,6 @@ pub mod Layout
 pub mod Report
 pub mod Mirror
 pub mod Count
+pub mod Refusals
+pub mod Parts
 pub mod Demand3

@@ -10,6 +10,8 @@ use Rattle.grid.specs.Answer.{refused, Written, unless}
 use Rattle.grid.specs.Screen.{Row, State, newState}
 use Rattle.grid.specs.Record.{bytes2, bytes4, fourAt, stateBytes, readState, serialOf, touchedOf, validb}
 use Rattle.mirror.specs.Layout.{ALL-ROWS, MIRROR-SIZE, MIRROR-VERSION, NEWEST, RECORD}
+use Rattle.mirror.specs.declared.arrive.Arrived.{Arrived}
+use Rattle.mirror.specs.declared.arrive.Arrived.the-variants.{Refused, Noted, Applied}
 use Rattle.mirror.specs.Report.{Kind, Step, Full, Report, bits, readReport, reportb}
 
 -- the newest serial n, and a screen record of serial m with touched 0
@@ -83,12 +85,7 @@ creatingMirror w l = unless (if eqb (length l) MIRROR-SIZE then 0 else 1) l (rec
 
 -- ---- arrival: the lent mirror l, the arriving slice b
 
-pub data Arrived : Type 0 where
-  Refused : ℕ → Arrived
-  -- old or early: only n can change
-  Noted : Arrived
-  Applied : Arrived
-
+-- what becomes of it; `Arrived` is the enum of `src/arrive.rt`
 unfoldable pub arrived : List ℕ → List ℕ → Arrived
 arrived l b =
     let r = readReport b in

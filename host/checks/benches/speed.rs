@@ -2,7 +2,8 @@
 //!
 //! One driver makes the same calls with the same inputs on both, in one run and one optimised build. No buffer is cleared or made anew
 //! between the turns of a measurement: each turn goes on with what the turn before has left.
-//! At the end the medians are set beside each other in a table; the figures that a call is held to are ratios.
+//! At the end the times are set beside each other in a table; the figures that a call is held to are ratios. The table has the least of
+//! the samples, since other work on the machine can only add to a time, and for comparison the ratio of the medians.
 use checks::oracle::{new_record, screen::Screen};
 use criterion::{BenchmarkGroup, Criterion};
 use futonrobin::ffi;
@@ -106,7 +107,7 @@ fn measure<D: Driver>(group: &mut Group, name: &str, width: u32, start: &[u8], m
 macro_rules! both {
     ($criterion:expr, $work:expr, $width:expr, $start:expr, $calls:expr) => {{
         let mut group = $criterion.benchmark_group($work);
-        group.measurement_time(Duration::from_secs(4)).warm_up_time(Duration::from_secs(1)).sample_size(40);
+        group.measurement_time(Duration::from_secs(4)).warm_up_time(Duration::from_secs(1)).sample_size(60);
         measure::<Record>(&mut group, "archive", $width, $start, $calls);
         measure::<Screen>(&mut group, "rust", $width, $start, $calls);
         group.finish();
@@ -144,18 +145,33 @@ fn results() -> PathBuf {
     program.ancestors().nth(3).expect("target/release/deps/ is above it").join("speed")
 }
 
-/// The median in nanoseconds that criterion has written.
-fn median(results: &Path, work: &str, side: &str) -> f64 {
-    let file = results.join(work).join(side).join("new/estimates.json");
-    let text = std::fs::read_to_string(&file).unwrap_or_else(|problem| panic!("{}: {problem}", file.display()));
-    let estimates: serde_json::Value = serde_json::from_str(&text).expect("criterion writes JSON");
-    estimates["median"]["point_estimate"].as_f64().expect("an estimate has a median")
+/// Nanoseconds a turn: the least of criterion's samples, and its median.
+#[derive(Clone, Copy)]
+struct Time {
+    least: f64,
+    median: f64,
+}
+
+impl Time {
+    fn read(results: &Path, work: &str, side: &str) -> Self {
+        let folder = results.join(work).join(side).join("new");
+        let samples = json(&folder.join("sample.json"));
+        let numbers = |field: &str| -> Vec<f64> { samples[field].as_array().into_iter().flatten().filter_map(|n| n.as_f64()).collect() };
+        let a_turn = numbers("times").into_iter().zip(numbers("iters")).map(|(time, turns)| time / turns);
+        let median = json(&folder.join("estimates.json"))["median"]["point_estimate"].as_f64();
+        Self { least: a_turn.fold(f64::INFINITY, f64::min), median: median.expect("an estimate has a median") }
+    }
+}
+
+fn json(file: &Path) -> serde_json::Value {
+    let text = std::fs::read_to_string(file).unwrap_or_else(|problem| panic!("{}: {problem}", file.display()));
+    serde_json::from_str(&text).expect("criterion writes JSON")
 }
 
 fn table(results: &Path) {
-    let copy = median(results, "memcpy", "record");
-    println!("\nmedians, buffers not cleared; memcpy of a record: {copy:.0} ns\n");
-    println!("| work | width | archive, ns | Rust, ns | archive / Rust | archive / memcpy |\n|---|---|---|---|---|---|");
+    let copy = Time::read(results, "memcpy", "record").least;
+    println!("\nleast times, buffers not cleared; memcpy of a record: {copy:.1} ns\n");
+    println!("| work | width | archive, ns | Rust, ns | archive / Rust | the same of medians | archive / memcpy |\n|---|---|---|---|---|---|---|");
     let works = [
         ("keys", "10,000 keys overwriting a line of 255, a key", 10_000.0),
         ("listing", "a listing of 10,000 lines in one call, a line", 10_000.0),
@@ -164,9 +180,10 @@ fn table(results: &Path) {
     ];
     for (work, what, times) in works {
         for width in [80, 40] {
-            let [ours, rusts] = ["archive", "rust"].map(|side| median(results, &format!("{work} {width}"), side));
-            let (a, b) = (ours / times, rusts / times);
-            println!("| {what} | {width} | {a:.1} | {b:.1} | {:.2} | {:.1} |", a / b, a / copy);
+            let [ours, rusts] = ["archive", "rust"].map(|side| Time::read(results, &format!("{work} {width}"), side));
+            let (a, b) = (ours.least / times, rusts.least / times);
+            let medians = ours.median / rusts.median;
+            println!("| {what} | {width} | {a:.1} | {b:.1} | {:.2} | {medians:.2} | {:.1} |", a / b, a / copy);
         }
     }
 }

@@ -1,0 +1,47 @@
+-- `mirror::arrive::note` meets its contract. Assumes nothing.
+use borrow.Author.Needs.{needs}
+use Rattle.mirror.proofs.RowByRow.{before}
+use Rattle.mirror.proofs.Leaving.{all-bytes, note-done}
+use Rattle.editor.specs.Call.{given}
+use denote.Ref.{now}
+use Rattle.mirror.proofs.arrive.note.Statement.{statement}
+use Rattle.mirror.proofs.arrive.note.Tie as tie
+
+shown-serial-requires : tie.Need-shown-serial-requires
+shown-serial-requires c κs = search needs
+
+four-at-requires : tie.Need-four-at-requires
+four-at-requires c κs = search needs
+
+four-at-requires-2 : tie.Need-four-at-requires-2
+four-at-requires-2 c κs = search needs
+
+larger-requires : tie.Need-larger-requires
+larger-requires c κs = search needs
+
+write-front-requires : tie.Need-write-front-requires
+write-front-requires c κs = search needs
+
+level-requires : tie.Need-level-requires
+level-requires c κs = search needs
+
+same-length : tie.Need-same-length
+same-length c = search needs
+
+returns : tie.Need-returns
+returns c = let p = c .before .before .before .before .before .before .before .before .before .before .before .before in
+    let bytes = all-bytes (now (p .before .args .mir)) (p .slice-known .given) in
+    search (needs, note-done)
+
+pub note-spec : {M : Type 1} → statement M
+note-spec =
+    tie.close
+    (tie.spec
+    shown-serial-requires
+    four-at-requires
+    four-at-requires-2
+    larger-requires
+    write-front-requires
+    level-requires
+    same-length
+    returns)

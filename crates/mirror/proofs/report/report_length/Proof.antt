@@ -1,0 +1,20 @@
+-- `mirror::report::report_length` meets its contract. Assumes nothing.
+use borrow.Author.Needs.{needs}
+use Rattle.mirror.proofs.Making.{ones-fit, rows-fit, length-fits}
+use Rattle.mirror.proofs.report.report_length.Statement.{statement}
+use Rattle.mirror.proofs.report.report_length.Tie as tie
+
+cast-result : tie.Need-cast-result
+cast-result c = search (needs, ones-fit)
+
+mul-result : tie.Need-mul-result
+mul-result c = search (needs, rows-fit)
+
+add-result : tie.Need-add-result
+add-result c = search (needs, length-fits)
+
+returns : tie.Need-returns
+returns c = search needs
+
+pub report-length-spec : {M : Type 1} → statement M
+report-length-spec = tie.close (tie.spec cast-result mul-result add-result returns)

@@ -1,0 +1,80 @@
+// The mirror: its layout tested, and a new one made.
+use crate::layout::MIRROR_SIZE;
+use crate::layout::MIRROR_VERSION;
+use crate::layout::NEWEST;
+use crate::layout::RECORD;
+use grid::answer::REFUSED;
+use grid::head;
+use grid::part;
+ghost use mathlib.Core.Path.{_≡_};
+ghost use mathlib.Core.List.{_++_};
+ghost use lib.ListN.{length, drop};
+ghost use Rattle.grid.specs.Answer.{Writes};
+ghost use Rattle.mirror.specs.Layout.{MIRROR-SIZE, RECORD};
+ghost use Rattle.mirror.specs.Mirror.{mirrorb, creatingMirror};
+ghost use Rattle.mirror.specs.Parts.{mirrorFront, mirrorFrontb, shownb};
+
+fn front_ok(mir: &[u8]) -> bool
+    requires { ⌜ length (now mir) ≡ MIRROR-SIZE ⌝ }
+    ensures { λ t. ⌜ t ≡ mirrorFrontb (now (mir .entry)) ⌝ }
+{
+    if mir[0] != (MIRROR_SIZE / 256) as u8 {
+        return false;
+    }
+    if mir[1] != (MIRROR_SIZE % 256) as u8 {
+        return false;
+    }
+    mir[2] == MIRROR_VERSION
+}
+
+// Is the record valid, with nothing touched, and of a serial m ≤ n?
+fn shown_ok(mir: &[u8]) -> bool
+    requires { ⌜ length (now mir) ≡ MIRROR-SIZE ⌝ }
+    ensures { λ t. ⌜ t ≡ shownb (now (mir .entry)) ⌝ }
+{
+    let n = part::four_at(mir, NEWEST);
+    let rec = &mir[RECORD..];
+    if !grid::valid::valid(rec) {
+        return false;
+    }
+    if head::read_touched(rec) != 0 {
+        return false;
+    }
+    head::read_serial(rec) <= n
+}
+
+// Is the slice a mirror as the layout asks?
+pub fn mirror_ok(mir: &[u8]) -> bool
+    ensures { λ t. ⌜ t ≡ mirrorb (now (mir .entry)) ⌝ }
+{
+    if mir.len() != MIRROR_SIZE {
+        return false;
+    }
+    if !front_ok(mir) {
+        return false;
+    }
+    shown_ok(mir)
+}
+
+// Writes what stands before the record.
+pub fn write_front(mir: &mut [u8], newest: u32)
+    requires { ⌜ length (now mir) ≡ MIRROR-SIZE ⌝ }
+    ensures { λ _. ⌜ now (mir .exit) ≡ mirrorFront newest ++ drop RECORD (now (mir .entry)) ⌝ }
+{
+    part::put4(mir, NEWEST, newest);
+    mir[0] = (MIRROR_SIZE / 256) as u8;
+    mir[1] = (MIRROR_SIZE % 256) as u8;
+    mir[2] = MIRROR_VERSION;
+}
+
+// Takes any width and does not read the old bytes.
+pub fn mirror_new(mir: &mut [u8], width: u32) -> u32
+    ensures { λ n. ⌜ Writes (creatingMirror width (now (mir .entry))) n (now (mir .exit)) ⌝ }
+{
+    if mir.len() != MIRROR_SIZE {
+        return REFUSED + 1;
+    }
+    grid::fresh::new_screen(&mut mir[RECORD..], width);
+    write_front(mir, 0);
+    0
+}
