@@ -1,5 +1,5 @@
-//! Brings in the Rust source that the archive is compared with, from the folder that GWBASIC_SRC names: once unchanged, and once as a
-//! copy with one constructor appended inside its module, for screens that no list of calls reaches. Both stand in OUT_DIR, none in the tree.
+//! Brings in the Rust source that the archive is compared with, from the folder that GWBASIC_SRC names: unchanged, and its screen.rs once
+//! more as a copy with one constructor appended inside its module, for screens that no list of calls reaches. Both stand in OUT_DIR, none in the tree.
 use std::{env, fs, path::Path, process::exit};
 
 fn main() {
@@ -15,7 +15,9 @@ fn main() {
     let out = env::var("OUT_DIR").unwrap();
     let opened = Path::new(&out).join("opened.rs");
     fs::write(&opened, format!("{screen}\n{constructor}")).expect("OUT_DIR can be written");
-    let modules = [("screen", source.join("screen.rs")), ("opened", opened)];
+    let keys = source.join("keys.rs");
+    read(&keys);
+    let modules = [("screen", source.join("screen.rs")), ("keys", keys), ("opened", opened)];
     let text: String = modules.iter().map(|(name, path)| module(name, path)).collect();
     fs::write(Path::new(&out).join("oracle.rs"), text).expect("OUT_DIR can be written");
 }

@@ -3,10 +3,11 @@
 -- invariant. So a proof says `search (needs, LAW)` and names no path: antt finds the premises among the fields of `c`.
 -- Assumes nothing.
 use Prim.Native.Nat.{ℕ, _+_, _-_, _*_, _/_, _%_, _≤_, _<_}
-use mathlib.Core.Path.{_≡_, refl, sym, ap, _∙_}
-use mathlib.Core.Bool.{Bool, true, false, not}
+use mathlib.Core.Path.{_≡_, refl, sym, ap, ap₂, _∙_}
+use mathlib.Core.Bool.{Bool, true, false, not, _&&_}
 use mathlib.Core.Bool
 use mathlib.Core.List.{List, [], _++_, append-nil}
+use mathlib.Core.Logic.{_⊎_, ⊎-elim}
 use native.Mathlib.Numerals.{add-one}
 use native.Mathlib.Omega.{arith}
 use lib.Dec.{ltb, eqb}
@@ -17,6 +18,7 @@ use Rattle.grid.specs.Layout.{SIZE, VERSION, FLAGS, CHARS, ATTRS, MASKS}
 use Rattle.grid.specs.Choice.{if_then_else_}
 use Rattle.grid.specs.Screen.{Row, home, normal, blankRow, newHead, newScreen, newState, every, printable, zerob, same, sameRow, trimBy, trim, editable, widthb, validAttr, validHead, validRow}
 use Rattle.grid.specs.Record.{window, write, rowOf, rowsOf, headOf, touchedOf, frontBytes, stateBytes, frontb, validb, Becomes}
+use Rattle.grid.specs.Counted.{Wrong}
 use Rattle.grid.specs.Facts.{HeadFits}
 use Rattle.grid.specs.declared.attr.Attr.{Attr}
 use Rattle.grid.specs.declared.head.Head.{Head}
@@ -27,7 +29,7 @@ use Rattle.grid.proofs.Trim.{trim-space, trim-found}
 use Rattle.grid.proofs.Validity.{head-facts, head-fits}
 use Rattle.grid.proofs.Keep.{new-head}
 use Rattle.grid.proofs.Record.{left-bytes}
-use Rattle.grid.proofs.Tests.{every-more, same-more, flag-bad, chars-bad, rest-bad, row-rest, width-bad, insert-bad, keys-bad, cursor-bad, column-bad, head-rest, length-bad, front-bad, head-bad, row-bad, all-good}
+use Rattle.grid.proofs.Tests.{every-more, same-more, flag-bad, row-wide, six, row-narrow, width-bad, insert-bad, keys-bad, cursor-bad, column-bad, head-rest, length-bad, front-bad, head-bad, row-bad, all-good}
 
 -- ---- part::copy_in, part::copy_down, part::fill
 
@@ -153,23 +155,65 @@ module _ (l m : List ℕ) (at : ℕ) where
       let done : i ≡ 80 = omega arith in
       rw done at e
 
--- ---- valid::row_ok: f is the flag, and t, u, v are what the tests of its parts have answered
+-- ---- valid::wide_row_ok: f is the flag, and t what the test of the characters has answered
 
-module _ (l : List ℕ) (r w : ℕ) (len : length l ≡ SIZE) (below : r < 25) (wide : w ≤ 80) where
-  pub row-flag-found : (f : ℕ) → f ≡ rowOf l r .flag → 1 < f → false ≡ validRow w (rowOf l r)
-  row-flag-found f is h = sym (flag-bad l r w len below wide (omega arith))
+module _ (l : List ℕ) (r : ℕ) (len : length l ≡ SIZE) (below : r < 25) where
+  pub wide-flag : (f : ℕ) → f ≡ rowOf l r .flag → 1 < f → false ≡ validRow 80 (rowOf l r)
+  wide-flag f is h = sym (flag-bad l r 80 len below (omega arith) (omega arith))
 
-  pub row-chars-found : (t : Bool) → t ≡ every printable (window l (CHARS + 80 * r) w) → not t ≡ true → false ≡ validRow w (rowOf l r)
-  row-chars-found t is n = sym (chars-bad l r w len below wide (sym is ∙ not-true t n))
+  pub wide-end : (f : ℕ) (t : Bool) → f ≡ rowOf l r .flag → f ≤ 1 → t ≡ every printable (window l (CHARS + 80 * r) 80) → t ≡ validRow 80 (rowOf l r)
+  wide-end f t ef hf et = et ∙ sym (row-wide l r len below (omega arith))
 
-  pub row-rest-found : (t : Bool) → t ≡ every zerob (window l (CHARS + 80 * r + w) (80 - w)) → not t ≡ true → false ≡ validRow w (rowOf l r)
-  row-rest-found t is n = sym (rest-bad l r w len below wide (sym is ∙ not-true t n))
+  pub narrow-flag : (f : ℕ) → f ≡ rowOf l r .flag → 1 < f → false ≡ validRow 40 (rowOf l r)
+  narrow-flag f is h = sym (flag-bad l r 40 len below (omega arith) (omega arith))
 
-  pub row-end : (f : ℕ) (t u v : Bool) → f ≡ rowOf l r .flag → f ≤ 1 → t ≡ every printable (window l (CHARS + 80 * r) w) → not t ≡ false
-      → u ≡ every zerob (window l (CHARS + 80 * r + w) (80 - w)) → not u ≡ false → v ≡ every zerob (window l (ATTRS + 80 * r + w) (80 - w))
-      → v ≡ validRow w (rowOf l r)
-  row-end f t u v ef hf et ht eu hu ev =
-      ev ∙ sym (row-rest l r w len below wide (omega arith) (sym et ∙ not-false t ht) (sym eu ∙ not-false u hu))
+  pub narrow-end : (f a b : ℕ) → f ≡ rowOf l r .flag → f ≤ 1 → Wrong l (CHARS + 80 * r) (ATTRS + 80 * r) 32 a
+      → Wrong l (CHARS + 80 * r + 24) (ATTRS + 80 * r + 24) 16 b → eqb (a + b) 0 ≡ validRow 40 (rowOf l r)
+  narrow-end f a b ef hf p q = row-narrow l r len below a b (omega arith) p q
+
+-- ---- valid::narrow_wrong: x, y, z are 1 for a byte that does not pass
+
+-- what is left of the first i cells; shut, so that `search` meets it as one call
+unfoldable pub cleanTo : List ℕ → ℕ → ℕ → ℕ → Bool
+cleanTo l chars attrs i = every printable (window l chars i) && every zerob (window l (chars + 40) i) && every zerob (window l (attrs + 40) i)
+
+module _ (l : List ℕ) (chars attrs : ℕ) where
+  pub clean-start : eqb 0 0 ≡ cleanTo l chars attrs 0
+  unfolding cleanTo every window
+  clean-start = refl
+
+  pub clean-turn : (i n bad x y z : ℕ) → chars + 40 + n ≤ length l → attrs + 40 + n ≤ length l → i < n → eqb bad 0 ≡ cleanTo l chars attrs i
+      → x ≡ (if printable (getD l (chars + i) 0) then 0 else 1) → y ≡ (if zerob (getD l (chars + 40 + i) 0) then 0 else 1)
+      → z ≡ (if zerob (getD l (attrs + 40 + i) 0) then 0 else 1) → eqb (bad + x + y + z) 0 ≡ cleanTo l chars attrs (i + 1)
+  unfolding cleanTo
+  clean-turn i n bad x y z h h′ q e ex ey ez =
+      let p = printable (getD l (chars + i) 0) in
+      let u = zerob (getD l (chars + 40 + i) 0) in
+      let v = zerob (getD l (attrs + 40 + i) 0) in
+      let a = every printable (window l chars i) in
+      let b = every zerob (window l (chars + 40) i) in
+      let d = every zerob (window l (attrs + 40) i) in
+      let k : eqb (bad + x + y + z) 0 ≡ ((a && b && d) && p) && u && v =
+      count-turn (bad + x + y) z (((a && b && d) && p) && u) v (count-turn (bad + x) y ((a && b && d) && p) u (count-turn bad x (a && b && d) p e ex) ey) ez in
+      k ∙ six a b d p u v
+      ∙ sym
+      (ap₂ (λ (s t : Bool). s && t) (ap₂ (λ (s t : Bool). s && t) (every-more printable l chars i (omega arith)) (every-more zerob l (chars + 40) i (omega arith)))
+      (every-more zerob l (attrs + 40) i (omega arith)))
+
+  pub clean-end : (i n bad : ℕ) → i ≤ n → n ≤ i → bad ≤ 3 * i → eqb bad 0 ≡ cleanTo l chars attrs i → Wrong l chars attrs n bad
+  unfolding cleanTo
+  clean-end i n bad h k m e =
+      let done : i ≡ n = omega arith in
+      record { none = rw done at e; most = omega arith }
+
+-- ---- valid::row_ok: t is what the test of the width's own kind has answered
+
+module _ (l : List ℕ) (r w : ℕ) (t : Bool) where
+  pub row-of-80 : w ≡ 80 → t ≡ validRow 80 (rowOf l r) → t ≡ validRow w (rowOf l r)
+  row-of-80 e is = is ∙ ap (λ (x : ℕ). validRow x (rowOf l r)) (sym e)
+
+  pub row-of-40 : (w ≡ 40) ⊎ (w ≡ 80) → (w ≡ 80 → ⊥) → t ≡ validRow 40 (rowOf l r) → t ≡ validRow w (rowOf l r)
+  row-of-40 c ne is = is ∙ ⊎-elim (λ (e : w ≡ 40). ap (λ (x : ℕ). validRow x (rowOf l r)) (sym e)) (λ (e : w ≡ 80). absurd (ne e)) c
 
 -- ---- valid::attr_ok
 
@@ -227,6 +271,9 @@ module _ (l : List ℕ) where
 
 pub width-known : (h : Head) (t : Bool) → t ≡ validHead h → not t ≡ false → h .width ≤ 80
 width-known h t is n = head-facts h (sym is ∙ not-false t n) .width-to
+
+pub widths-known : (h : Head) (t : Bool) → t ≡ validHead h → not t ≡ false → (h .width ≡ 40) ⊎ (h .width ≡ 80)
+widths-known h t is n = head-facts h (sym is ∙ not-false t n) .widths
 
 module _ (l : List ℕ) where
   pub length-found : (length l ≡ SIZE → ⊥) → false ≡ validb l

@@ -8,14 +8,15 @@ use mathlib.Core.List.{List, [], _∷_, _++_}
 use native.Mathlib.Omega.{arith}
 use lib.Dec.{leb, eqb}
 use lib.ListN.{length, getD, take, drop}
-use lib.Seq.{take-nil, take-take, drop-drop}
-use borrow.Author.Tests.{lt-ltb, le-ltb, le-leb, lt-leb, eq-eqb, ne-eqb}
+use lib.Seq.{take-nil, take-take, take-add, drop-drop}
+use borrow.Author.Tests.{lt-ltb, le-ltb, le-leb, lt-leb, eq-eqb, ne-eqb, eqb-true, eqb-false}
 use Rattle.grid.specs.Layout.{SIZE, CHARS, ATTRS}
 use Rattle.grid.specs.Screen.{every, printable, zerob, same, editable, widthb, validAttr, validHead, validRow, validScreen}
 use Rattle.grid.specs.Record.{window, rowOf, rowsOf, headOf, frontb, validb}
+use Rattle.grid.specs.Counted.{Wrong}
 use Rattle.grid.specs.declared.head.Head.{Head}
-use Rattle.grid.proofs.Bools.{and-false, every-snoc, every-not}
-use Rattle.grid.proofs.Window.{length-window, window-more}
+use Rattle.grid.proofs.Bools.{and-false, every-append, every-snoc, every-not}
+use Rattle.grid.proofs.Window.{length-window, window-none, window-more}
 use Rattle.grid.proofs.Rows.{full-row, length-rows, getD-rows}
 
 -- ---- a part of the bytes, one byte more
@@ -42,6 +43,52 @@ same-more l m a i h k =
     ap₂ same (window-more l a i h) (window-more m a i k)
     ∙ same-snoc (window l a i) (window m a i) (getD l (a + i) 0) (getD m (a + i) 0)
     (length-window l a i (omega arith) ∙ sym (length-window m a i (omega arith)))
+
+-- ---- Booleans
+
+pub zero-sum : (a b : ℕ) → eqb (a + b) 0 ≡ eqb a 0 && eqb b 0
+zero-sum a b = go (eqb a 0) (eqb b 0) refl refl
+  where
+    go : (x y : Bool) → eqb a 0 ≡ x → eqb b 0 ≡ y → eqb (a + b) 0 ≡ x && y
+    go true true ea eb = eq-eqb (a + b) 0 (omega (arith, eqb-true a 0 ea, eqb-true b 0 eb))
+    go true false ea eb = ne-eqb (a + b) 0 (λ e. eqb-false b 0 eb (omega arith))
+    go false y ea eb = ne-eqb (a + b) 0 (λ e. eqb-false a 0 ea (omega arith))
+
+pub regroup : (a b c x y z : Bool) → (a && b && c) && (x && y && z) ≡ ((a && x) && (b && y)) && (c && z)
+regroup true true true x y z = refl
+regroup true true false true true z = refl
+regroup true true false true false z = refl
+regroup true true false false y z = refl
+regroup true false c true y z = refl
+regroup true false c false y z = refl
+regroup false b c x y z = refl
+
+pub six : (a b d p u v : Bool) → ((a && b && d) && p) && u && v ≡ ((a && p) && (b && u)) && (d && v)
+six true true true p u v = refl
+six true true false true true v = refl
+six true true false true false v = refl
+six true true false false u v = refl
+six true false d true u v = refl
+six true false d false u v = refl
+six false b d p u v = refl
+
+thrice : (a b c : Bool) → (a && b) && (b && c) ≡ (a && b) && c
+thrice true true c = refl
+thrice true false c = refl
+thrice false b c = refl
+
+-- the first 32 of 40 bytes and the last 16
+pub overlap : (p : ℕ → Bool) (l : List ℕ) (a : ℕ) → a + 40 ≤ length l → every p (window l a 32) && every p (window l (a + 24) 16) ≡ every p (window l a 40)
+unfolding window
+overlap p l a h =
+    let e₁ : every p (take 32 (drop a l)) ≡ every p (take 24 (drop a l)) && every p (take 8 (drop (a + 24) l)) =
+    ap (every p) (take-add 24 8 (drop a l) ∙ ap (λ (x : List ℕ). take 24 (drop a l) ++ take 8 x) (drop-drop 24 a l)) ∙ every-append p _ _ in
+    let e₂ : every p (take 16 (drop (a + 24) l)) ≡ every p (take 8 (drop (a + 24) l)) && every p (take 8 (drop (a + 24 + 8) l)) =
+    ap (every p) (take-add 8 8 (drop (a + 24) l) ∙ ap (λ (x : List ℕ). take 8 (drop (a + 24) l) ++ take 8 x) (drop-drop 8 (a + 24) l)) ∙ every-append p _ _ in
+    let k : a + 24 + 8 ≡ a + 32 = omega arith in
+    let e₃ : every p (take 40 (drop a l)) ≡ every p (take 32 (drop a l)) && every p (take 8 (drop (a + 24 + 8) l)) =
+    ap (every p) (take-add 32 8 (drop a l) ∙ ap (λ (x : List ℕ). take 32 (drop a l) ++ take 8 x) (drop-drop 32 a l ∙ ap (λ (i : ℕ). drop i l) (sym k))) ∙ every-append p _ _ in
+    ap₂ (λ (s t : Bool). s && t) e₁ e₂ ∙ thrice (every p (take 24 (drop a l))) (every p (take 8 (drop (a + 24) l))) (every p (take 8 (drop (a + 24 + 8) l))) ∙ sym (e₃ ∙ ap (λ (b : Bool). b && every p (take 8 (drop (a + 24 + 8) l))) e₁)
 
 -- ---- a row
 
@@ -84,15 +131,30 @@ module _ (l : List ℕ) (r w : ℕ) (len : length l ≡ SIZE) (below : r < 25) (
   pub flag-bad : 1 < rowOf l r .flag → validRow w (rowOf l r) ≡ false
   flag-bad h = row-test ∙ rw (lt-leb (rowOf l r .flag) 1 h)
 
-  pub chars-bad : every printable (window l (CHARS + 80 * r) w) ≡ false → validRow w (rowOf l r) ≡ false
-  chars-bad h = row-test ∙ simp (h, Bool.and-false)
+module _ (l : List ℕ) (r : ℕ) (len : length l ≡ SIZE) (below : r < 25) where
+  -- of 80 columns: nothing is beyond the width
+  pub row-wide : rowOf l r .flag ≤ 1 → validRow 80 (rowOf l r) ≡ every printable (window l (CHARS + 80 * r) 80)
+  unfolding every
+  row-wide f =
+      row-test l r 80 len below (omega arith)
+      ∙ rw (le-leb (rowOf l r .flag) 1 f, window-none l (CHARS + 80 * r + 80), window-none l (ATTRS + 80 * r + 80))
+      (Bool.and-true _ ∙ Bool.and-true _)
 
-  pub rest-bad : every zerob (window l (CHARS + 80 * r + w) (80 - w)) ≡ false → validRow w (rowOf l r) ≡ false
-  rest-bad h = row-test ∙ simp (h, Bool.and-false)
-
-  pub row-rest : rowOf l r .flag ≤ 1 → every printable (window l (CHARS + 80 * r) w) ≡ true → every zerob (window l (CHARS + 80 * r + w) (80 - w)) ≡ true
-      → validRow w (rowOf l r) ≡ every zerob (window l (ATTRS + 80 * r + w) (80 - w))
-  row-rest f p z = row-test ∙ rw (le-leb (rowOf l r .flag) 1 f, p, z)
+  -- of 40 columns, from its first 32 cells and its last 16
+  pub row-narrow : (a b : ℕ) → rowOf l r .flag ≤ 1 → Wrong l (CHARS + 80 * r) (ATTRS + 80 * r) 32 a
+      → Wrong l (CHARS + 80 * r + 24) (ATTRS + 80 * r + 24) 16 b → eqb (a + b) 0 ≡ validRow 40 (rowOf l r)
+  row-narrow a b f p q =
+      let c : ℕ = CHARS + 80 * r in
+      let d : ℕ = ATTRS + 80 * r in
+      let i : c + 24 + 40 ≡ c + 40 + 24 = omega arith in
+      let j : d + 24 + 40 ≡ d + 40 + 24 = omega arith in
+      let q′ = rw (i, j) at (q .none) in
+      zero-sum a b ∙ ap₂ (λ (s t : Bool). s && t) (p .none) q′
+      ∙ regroup (every printable (window l c 32)) (every zerob (window l (c + 40) 32)) (every zerob (window l (d + 40) 32))
+      (every printable (window l (c + 24) 16)) (every zerob (window l (c + 40 + 24) 16)) (every zerob (window l (d + 40 + 24) 16))
+      ∙ ap₂ (λ (s t : Bool). s && t) (ap₂ (λ (s t : Bool). s && t) (overlap printable l c (omega arith)) (overlap zerob l (c + 40) (omega arith)))
+      (overlap zerob l (d + 40) (omega arith))
+      ∙ sym (row-test l r 40 len below (omega arith) ∙ rw (le-leb (rowOf l r .flag) 1 f))
 
 -- ---- the head
 

@@ -7,3 +7,4 @@ pub mod Mask
 pub mod Record
 pub mod Facts
 pub mod Answer
+pub mod Counted

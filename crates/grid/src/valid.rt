@@ -14,11 +14,13 @@ use crate::layout::VERSION;
 use crate::row;
 ghost use mathlib.Core.Path.{_≡_};
 ghost use Prim.Native.Nat.{_+_, _≤_, _<_};
+ghost use mathlib.Core.Logic.{_⊎_};
 ghost use lib.ListN.{length};
 ghost use Rattle.grid.specs.Choice.{if_then_else_};
 ghost use Rattle.grid.specs.Layout.{SIZE};
 ghost use Rattle.grid.specs.Screen.{printable, zerob, every, widthb, validAttr, validHead, validRow};
 ghost use Rattle.grid.specs.Record.{window, rowOf, frontb, validb};
+ghost use Rattle.grid.specs.Counted.{Wrong};
 
 // May a cell hold the character c?
 pub fn is_printable(c: u8) -> bool
@@ -70,20 +72,55 @@ pub fn all_zero(rec: &[u8], at: usize, n: usize) -> bool
     bad == 0
 }
 
-fn row_ok(rec: &[u8], r: usize, w: usize) -> bool
-    requires { ⌜ (length (now rec) ≡ SIZE) × (r < 25) × (w ≤ 80) ⌝ }
-    ensures { λ t. ⌜ t ≡ validRow w (rowOf (now (rec .entry)) r) ⌝ }
+// A row of 80 columns.
+fn wide_row_ok(rec: &[u8], r: usize) -> bool
+    requires { ⌜ (length (now rec) ≡ SIZE) × (r < 25) ⌝ }
+    ensures { λ t. ⌜ t ≡ validRow 80 (rowOf (now (rec .entry)) r) ⌝ }
 {
     if row::flag_at(rec, r) > 1 {
         return false;
     }
-    if !all_printable(rec, CHARS + STRIDE * r, w) {
+    all_printable(rec, CHARS + STRIDE * r, 80)
+}
+
+// What is wrong with n cells of a row of 40 columns, and with the bytes 40 places behind them, which are beyond the width.
+fn narrow_wrong(rec: &[u8], chars: usize, attrs: usize, n: usize) -> u8
+    requires { ⌜ (chars + 40 + n ≤ length (now rec)) × (attrs + 40 + n ≤ length (now rec)) × (n ≤ 32) ⌝ }
+    ensures { λ k. ⌜ Wrong (now (rec .entry)) chars attrs n k ⌝ }
+{
+    let mut bad: u8 = 0;
+    let mut i = 0;
+    while i < n {
+        bad = bad
+            + unprintable(rec[chars + i])
+            + nonzero(rec[chars + 40 + i])
+            + nonzero(rec[attrs + 40 + i]);
+        i += 1;
+    }
+    bad
+}
+
+// A row of 40 columns: its first 32 cells and its last 16, which overlap, so that either loop runs in whole vectors.
+fn narrow_row_ok(rec: &[u8], r: usize) -> bool
+    requires { ⌜ (length (now rec) ≡ SIZE) × (r < 25) ⌝ }
+    ensures { λ t. ⌜ t ≡ validRow 40 (rowOf (now (rec .entry)) r) ⌝ }
+{
+    if row::flag_at(rec, r) > 1 {
         return false;
     }
-    if !all_zero(rec, CHARS + STRIDE * r + w, 80 - w) {
-        return false;
+    let first = narrow_wrong(rec, CHARS + STRIDE * r, ATTRS + STRIDE * r, 32);
+    let last = narrow_wrong(rec, CHARS + STRIDE * r + 24, ATTRS + STRIDE * r + 24, 16);
+    first + last == 0
+}
+
+fn row_ok(rec: &[u8], r: usize, w: usize) -> bool
+    requires { ⌜ (length (now rec) ≡ SIZE) × (r < 25) × ((w ≡ 40) ⊎ (w ≡ 80)) ⌝ }
+    ensures { λ t. ⌜ t ≡ validRow w (rowOf (now (rec .entry)) r) ⌝ }
+{
+    if w == 80 {
+        return wide_row_ok(rec, r);
     }
-    all_zero(rec, ATTRS + STRIDE * r + w, 80 - w)
+    narrow_row_ok(rec, r)
 }
 
 pub fn width_ok(w: usize) -> bool

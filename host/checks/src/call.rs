@@ -1,5 +1,6 @@
-//! The exported calls of the screen as values, and one function that makes a call through the archive.
+//! The exported calls on a screen record as values, and one function that makes a call through the archive.
 use crate::layout::{LINE, SNAPSHOT};
+use crate::reports::{self, REPORT};
 use futonrobin::ffi;
 use std::fmt;
 
@@ -38,6 +39,7 @@ pub enum Call {
     Continues(u32),
     LogicalText,
     Snapshot,
+    Report(reports::Kind),
 }
 
 use Call::*;
@@ -69,6 +71,7 @@ pub enum Kind {
     Changing,
     Reading,
     Text,
+    Report,
 }
 
 /// One call of every name, with arguments that are in range on every screen.
@@ -77,6 +80,7 @@ pub fn one_of_each() -> Vec<Call> {
     calls.extend(KEYS);
     calls.extend([SetWidth(40), SetCursor(7, 9), SetInsert(1), SetAttr(0x1e), SetKeysOn(0)]);
     calls.extend([Width, Cursor, Attr, EditableRows, Cell(3, 5), Continues(2), LogicalText, Snapshot]);
+    calls.extend([Report(reports::Kind::Step), Report(reports::Kind::Full)]);
     calls
 }
 
@@ -86,6 +90,7 @@ impl Call {
             New(_) => Kind::New,
             Width | Cursor | Attr | EditableRows | Cell(..) | Continues(_) => Kind::Reading,
             LogicalText | Snapshot => Kind::Text,
+            Report(_) => Kind::Report,
             _ => Kind::Changing,
         }
     }
@@ -95,6 +100,7 @@ impl Call {
         match self {
             TakeLogicalLine | LogicalText => LINE,
             Snapshot => SNAPSHOT,
+            Report(_) => REPORT,
             _ => 0,
         }
     }
@@ -139,6 +145,8 @@ impl Call {
             Continues(_) => "continues",
             LogicalText => "logical_text",
             Snapshot => "snapshot",
+            Report(reports::Kind::Step) => "report_step",
+            Report(reports::Kind::Full) => "report_full",
         }
     }
 
@@ -178,6 +186,8 @@ impl Call {
             Continues(row) => ffi::screen_continues(rec, row),
             LogicalText => ffi::screen_logical_text(rec, out),
             Snapshot => ffi::screen_snapshot(rec, out),
+            Report(reports::Kind::Step) => ffi::report_step(rec, out),
+            Report(reports::Kind::Full) => ffi::report_full(rec, out),
         }
     }
 }

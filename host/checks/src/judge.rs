@@ -3,6 +3,7 @@
 use crate::call::{Call, Kind};
 use crate::layout::*;
 use crate::oracle::{self, Oracle};
+use crate::reports;
 
 /// The number answered, and the final bytes of record and output.
 pub struct Outcome {
@@ -36,8 +37,11 @@ fn accepted(call: &Call, rec: &[u8], out: &[u8]) -> Outcome {
             Outcome { answer: text.len() as u32, rec: oracle::record_after(rec, &screen), out: over(&text, out) }
         }
         Kind::Reading => Outcome { answer: oracle::opened(rec).read(call), rec: rec.to_vec(), out: out.to_vec() },
-        Kind::Text => {
-            let text = oracle::opened(rec).text(call);
+        Kind::Text | Kind::Report => {
+            let text = match *call {
+                Call::Report(kind) => reports::made(kind, rec),
+                _ => oracle::opened(rec).text(call),
+            };
             Outcome { answer: text.len() as u32, rec: rec.to_vec(), out: over(&text, out) }
         }
     }
@@ -86,22 +90,29 @@ pub fn valid(rec: &[u8]) -> bool {
 }
 
 fn valid_front(rec: &[u8]) -> bool {
+    length_field(rec) == SIZE && rec[VERSION_AT] == VERSION && valid_head(rec) && touched(rec) < 1 << 25
+}
+
+/// The record's bytes from the width to the attribute, which reports have too.
+pub fn valid_head(rec: &[u8]) -> bool {
     let switch = |b: u8| b <= 1;
-    length_field(rec) == SIZE
-        && rec[VERSION_AT] == VERSION
-        && (width(rec) == 40 || width(rec) == 80)
+    (width(rec) == 40 || width(rec) == 80)
         && switch(rec[INSERT_AT])
         && switch(rec[KEYS_AT])
         && cursor(rec).0 < editable(rec)
         && cursor(rec).1 < width(rec)
-        && touched(rec) < 1 << 25
 }
 
-/// Folds and not `all`: without an early way out they are some times faster, and this runs millions of times.
 fn valid_row(rec: &[u8], row: usize) -> bool {
-    let (inside, beyond) = chars(rec, row).split_at(width(rec));
-    let beyond_too = &attrs(rec, row)[width(rec)..];
+    valid_cells(width(rec), flag(rec, row), chars(rec, row), attrs(rec, row))
+}
+
+/// One row's flag, characters and attributes.
+/// Folds and not `all`: without an early way out they are some times faster, and this runs millions of times.
+pub fn valid_cells(width: usize, flag: u8, chars: &[u8], attrs: &[u8]) -> bool {
+    let (inside, beyond) = chars.split_at(width);
+    let beyond_too = &attrs[width..];
     let zero = |bytes: &[u8]| bytes.iter().fold(0, |sum, b| sum | b) == 0;
     let shown = inside.iter().fold(true, |ok, &b| ok & (b == 27 || b >= 32));
-    flag(rec, row) <= 1 && shown && zero(beyond) && zero(beyond_too)
+    flag <= 1 && shown && zero(beyond) && zero(beyond_too)
 }

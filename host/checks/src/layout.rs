@@ -42,11 +42,12 @@ pub fn editable(rec: &[u8]) -> usize {
     ROWS - rec[KEYS_AT] as usize
 }
 
-fn number(rec: &[u8], at: usize) -> u32 {
+/// The number in the four bytes from `at` on.
+pub fn number(rec: &[u8], at: usize) -> u32 {
     u32::from_be_bytes([rec[at], rec[at + 1], rec[at + 2], rec[at + 3]])
 }
 
-fn set_number(rec: &mut [u8], at: usize, value: u32) {
+pub fn set_number(rec: &mut [u8], at: usize, value: u32) {
     rec[at..at + 4].copy_from_slice(&value.to_be_bytes());
 }
 

@@ -5,6 +5,7 @@ use crate::layout::*;
 use crate::lists::{self, List, Step};
 use crate::oracle::{self, Oracle};
 use crate::records::{self, Sketch};
+use crate::reports;
 use crate::tally::Tally;
 use crate::trial::{self, filler, Lent};
 use proptest::strategy::Strategy;
@@ -21,7 +22,7 @@ pub fn runner(seed: u64, cases: u32) -> TestRunner {
 }
 
 /// Tries `cases` values. The first that fails is shrunk, and the answer has its difference and the value.
-fn try_all<S: Strategy>(
+pub fn try_all<S: Strategy>(
     seed: u64,
     cases: u32,
     values: &S,
@@ -87,15 +88,16 @@ fn play(list: &List, tally: &mut Tally) -> Result<(), String> {
     Ok(())
 }
 
-struct Game {
-    lent: Lent,
+/// A record that is changed through the archive beside the Rust's own screen, and what the record must be.
+pub struct Game {
+    pub lent: Lent,
     screen: oracle::screen::Screen,
-    record: Vec<u8>,
+    pub record: Vec<u8>,
 }
 
 impl Game {
     /// The new screen; its call does not read the buffer's old bytes.
-    fn new(width: u32) -> Result<Self, String> {
+    pub fn new(width: u32) -> Result<Self, String> {
         let old = filler(SIZE, width as usize);
         let want = judge::outcome(&Call::New(width), &old, &[]);
         let mut lent = Lent::new(&old);
@@ -104,10 +106,15 @@ impl Game {
         Ok(Self { lent, screen: oracle::screen::Screen::new(width as usize), record: want.rec })
     }
 
-    fn call(&mut self, call: &Call, turn: usize, tally: &mut Tally) -> Result<(), String> {
+    pub fn call(&mut self, call: &Call, turn: usize, tally: &mut Tally) -> Result<(), String> {
         let out = if call.has_output() { filler(call.room() + turn % 9, turn) } else { Vec::new() };
-        let want = self.wanted(call, &out);
-        let mut lent_out = Lent::new(&out);
+        self.call_with(call, &out, tally)
+    }
+
+    /// A call with an output that may be too short.
+    pub fn call_with(&mut self, call: &Call, out: &[u8], tally: &mut Tally) -> Result<(), String> {
+        let want = self.wanted(call, out);
+        let mut lent_out = Lent::new(out);
         let answer = call.make(self.lent.bytes_mut(), lent_out.bytes_mut());
         trial::compare(answer, &self.lent, &lent_out, &want)?;
         tally.count(call, &self.record, answer);
@@ -116,12 +123,15 @@ impl Game {
     }
 
     fn wanted(&mut self, call: &Call, out: &[u8]) -> Outcome {
-        if !judge::in_range(call, width(&self.record)) {
-            return Outcome { answer: judge::refused(3), rec: self.record.clone(), out: out.to_vec() };
+        let room = out.len() >= call.room();
+        if !room || !judge::in_range(call, width(&self.record)) {
+            let answer = judge::refused(if room { 3 } else { 1 });
+            return Outcome { answer, rec: self.record.clone(), out: out.to_vec() };
         }
-        let text = match call.kind() {
-            Kind::Changing => self.screen.change(call),
-            Kind::Text => self.screen.text(call),
+        let text = match *call {
+            Call::Report(kind) => reports::made(kind, &self.record),
+            _ if call.kind() == Kind::Changing => self.screen.change(call),
+            _ if call.kind() == Kind::Text => self.screen.text(call),
             _ => return Outcome { answer: self.screen.read(call), rec: self.record.clone(), out: out.to_vec() },
         };
         let rec = match call.kind() {

@@ -4,13 +4,14 @@ use crate::judge;
 use crate::layout::*;
 use crate::oracle::{self, Oracle};
 use crate::random::runner;
+use crate::reports::{self, REPORT};
 use crate::tally::Tally;
 use crate::trial::{self, filler};
 use proptest::prelude::RngCore;
 use proptest::test_runner::TestRng;
 
 /// A valid record with text, flags, colours, a serial and touched rows.
-fn sample(width: u32) -> Vec<u8> {
+pub fn sample(width: u32) -> Vec<u8> {
     let mut screen = oracle::screen::Screen::new(width as usize);
     let mut rec = oracle::new_record(width);
     let calls = [
@@ -36,7 +37,7 @@ fn attempt(call: &Call, rec: &[u8], out: &[u8], tally: &mut Tally) -> Result<(),
 
 /// Each byte of a valid record set to each of its 255 other values, for one call of each kind that reads the record.
 pub fn every_byte(tally: &mut Tally) -> Result<(), String> {
-    let calls = [Call::TypeChar(b'K' as u32), Call::Width, Call::LogicalText];
+    let calls = [Call::TypeChar(b'K' as u32), Call::Width, Call::LogicalText, Call::Report(reports::Kind::Step)];
     for width in [80, 40] {
         let mut rec = sample(width);
         for at in 0..SIZE {
@@ -90,7 +91,7 @@ pub fn every_length(tally: &mut Tally) -> Result<(), String> {
                 .map_err(|found| format!("a record of {length} bytes: {found}"))?;
         }
         if call.has_output() {
-            for length in (0..300).chain(SNAPSHOT - 30..SNAPSHOT + 30).chain([SIZE, 65_536]) {
+            for length in (0..300).chain(SNAPSHOT - 30..SNAPSHOT + 30).chain(REPORT - 30..REPORT + 30).chain([65_536]) {
                 attempt(&call, &valid, &filler(length, 5), tally).map_err(|found| format!("an output of {length} bytes: {found}"))?;
             }
         }

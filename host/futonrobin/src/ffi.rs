@@ -4,7 +4,7 @@
 //! them only. So a pointer and a length that come from one living slice are all that is asked of a caller, and that is what
 //! the functions here hand over. A slice crosses as its pointer and then its length, every number is a `u32`.
 
-/// Calls on one record that is lent to be written, and numbers.
+/// Calls on one record or mirror that is lent to be written, and numbers.
 macro_rules! changing {
     ($($name:ident($($number:ident),*);)*) => {
         mod changing {
@@ -64,6 +64,7 @@ changing! {
     screen_set_insert(on);
     screen_set_attr(attr);
     screen_set_keys_on(on);
+    mirror_new(width);
 }
 
 reading! {
@@ -78,12 +79,16 @@ reading! {
 writing! {
     screen_logical_text;
     screen_snapshot;
+    report_step;
+    report_full;
 }
 
 mod two_slices {
     extern "C" {
         pub fn screen_print_bytes(rec: *mut u8, len: usize, bytes: *const u8, bytes_len: usize) -> u32;
         pub fn screen_take_logical_line(rec: *mut u8, len: usize, out: *mut u8, out_len: usize) -> u32;
+        pub fn mirror_arrive(mir: *mut u8, len: usize, report: *const u8, report_len: usize) -> u32;
+        pub fn keys_strip(tab: *const u8, len: usize, offset: u32, width: u32, out: *mut u8, out_len: usize) -> u32;
     }
 }
 
@@ -93,4 +98,12 @@ pub fn screen_print_bytes(rec: &mut [u8], bytes: &[u8]) -> u32 {
 
 pub fn screen_take_logical_line(rec: &mut [u8], out: &mut [u8]) -> u32 {
     unsafe { two_slices::screen_take_logical_line(rec.as_mut_ptr(), rec.len(), out.as_mut_ptr(), out.len()) }
+}
+
+pub fn mirror_arrive(mir: &mut [u8], report: &[u8]) -> u32 {
+    unsafe { two_slices::mirror_arrive(mir.as_mut_ptr(), mir.len(), report.as_ptr(), report.len()) }
+}
+
+pub fn keys_strip(tab: &[u8], offset: u32, width: u32, out: &mut [u8]) -> u32 {
+    unsafe { two_slices::keys_strip(tab.as_ptr(), tab.len(), offset, width, out.as_mut_ptr(), out.len()) }
 }

@@ -2,38 +2,11 @@
 //!
 //! It ends with a table, and with status 1 if anything differed or a named corner was never met. With `--soak` the random parts go on, each
 //! round with the seed after the last, until the minutes are over.
+use checks::options::{options, verdict};
 use checks::tally::{add_round, report, Part, Tally};
 use checks::{examples, exhaustive, random, refusals};
-use std::hash::{BuildHasher, Hasher};
 use std::process::exit;
-use std::time::{Duration, Instant};
-
-struct Options {
-    seed: u64,
-    soak: Duration,
-}
-
-fn options() -> Options {
-    let mut options = Options { seed: new_seed(), soak: Duration::ZERO };
-    let mut words = std::env::args().skip(1);
-    while let Some(word) = words.next() {
-        let number = words.next().and_then(|number| number.parse::<u64>().ok());
-        match (word.as_str(), number) {
-            ("--seed", Some(seed)) => options.seed = seed,
-            ("--soak", Some(minutes)) => options.soak = Duration::from_secs(60 * minutes),
-            _ => {
-                eprintln!("differential: '{word}' was not understood; it takes --seed NUMBER and --soak MINUTES");
-                exit(2);
-            }
-        }
-    }
-    options
-}
-
-/// A hasher of the standard library is keyed from the system's randomness.
-fn new_seed() -> u64 {
-    std::collections::hash_map::RandomState::new().build_hasher().finish() >> 32
-}
+use std::time::Instant;
 
 const RANDOM_LISTS: &str = "random lists from a new screen";
 const LISTS: u32 = 3_000;
@@ -72,7 +45,7 @@ fn fixed_parts() -> Vec<Part> {
 }
 
 fn main() {
-    let options = options();
+    let options = options("differential");
     let start = Instant::now();
     let mut parts = random_parts(options.seed);
     parts.extend(fixed_parts());
@@ -85,12 +58,4 @@ fn main() {
     let held = report(&parts, RANDOM_LISTS);
     println!("seed {}, rounds {round}, {:.0} s: {}", options.seed, start.elapsed().as_secs_f64(), verdict(held));
     exit(!held as i32);
-}
-
-fn verdict(held: bool) -> &'static str {
-    if held {
-        "no difference"
-    } else {
-        "NOT AS WANTED"
-    }
 }

@@ -6,7 +6,7 @@ use lib.ListN.{take}
 use borrow.Author.Needs.{needs}
 use Rattle.grid.specs.Screen.{every, validRow}
 use Rattle.grid.specs.Record.{rowsOf}
-use Rattle.grid.proofs.Steps.{width-known, length-found, front-found, head-found, row-found, rows-start, rows-turn, valid-end}
+use Rattle.grid.proofs.Steps.{widths-known, length-found, front-found, head-found, row-found, rows-start, rows-turn, valid-end}
 use Rattle.grid.proofs.valid.valid.Statement.{statement}
 use Rattle.grid.proofs.valid.valid.Tie as tie
 
@@ -38,7 +38,7 @@ loop-holds : tie.Need-loop-holds Inv-loop μ-loop
 loop-holds c = search (needs, rows-start)
 
 row-ok-requires : tie.Need-row-ok-requires Inv-loop μ-loop
-row-ok-requires c κs = search (needs, width-known)
+row-ok-requires c κs = (search needs, search needs, search (needs, widths-known))
 
 returns-4 : tie.Need-returns-4 Inv-loop μ-loop
 returns-4 c = search (needs, row-found)
