@@ -98,8 +98,8 @@ merge-snoc (true ∷ bs) true (y ∷ ys) (x ∷ rows) d h f =
 -- ---- the first r rows of a mask, and one row more
 
 -- how many rows of the mask stand before row r
-unfoldable pub before : ℕ → ℕ → ℕ
-before mask r = trues (bits r mask)
+unfoldable pub rowsBefore : ℕ → ℕ → ℕ
+rowsBefore mask r = trues (bits r mask)
 
 module _ (mask r : ℕ) where
   pub carry-more : (rows : List Row) (d : Row) → r < length rows
@@ -109,18 +109,18 @@ module _ (mask r : ℕ) where
       ap (λ (bs : List Bool). carry bs rows) (bits-more r mask) ∙ carry-snoc (bits r mask) (hasRow mask r) rows d (omega arith)
       ∙ ap (λ (i : ℕ). carry (bits r mask) rows ++ (if hasRow mask r then getD rows i d ∷ [] else [])) n
 
-  pub merge-more : (ys rows : List Row) (d : Row) → r < length rows → (hasRow mask r ≡ true → before mask r < length ys)
-      → merge (bits (suc r) mask) ys rows ≡ (if hasRow mask r then set (merge (bits r mask) ys rows) r (getD ys (before mask r) d) else merge (bits r mask) ys rows)
-  unfolding before
+  pub merge-more : (ys rows : List Row) (d : Row) → r < length rows → (hasRow mask r ≡ true → rowsBefore mask r < length ys)
+      → merge (bits (suc r) mask) ys rows ≡ (if hasRow mask r then set (merge (bits r mask) ys rows) r (getD ys (rowsBefore mask r) d) else merge (bits r mask) ys rows)
+  unfolding rowsBefore
   merge-more ys rows d h f =
       let n = length-bits r mask in
       ap (λ (bs : List Bool). merge bs ys rows) (bits-more r mask) ∙ merge-snoc (bits r mask) (hasRow mask r) ys rows d (omega arith) f
       ∙ ap (λ (i : ℕ). if hasRow mask r then set (merge (bits r mask) ys rows) i (getD ys (trues (bits r mask)) d) else merge (bits r mask) ys rows) n
 
-  pub before-more : before mask (suc r) ≡ (if hasRow mask r then suc (before mask r) else before mask r)
-  unfolding before
+  pub before-more : rowsBefore mask (suc r) ≡ (if hasRow mask r then suc (rowsBefore mask r) else rowsBefore mask r)
+  unfolding rowsBefore
   before-more = ap trues (bits-more r mask) ∙ trues-snoc (bits r mask) (hasRow mask r)
 
-pub before-most : (mask r : ℕ) → before mask r ≤ ones mask
-unfolding before
+pub before-most : (mask r : ℕ) → rowsBefore mask r ≤ ones mask
+unfolding rowsBefore
 before-most mask r = trues-ones r mask

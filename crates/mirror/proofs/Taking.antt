@@ -25,7 +25,7 @@ use Rattle.mirror.specs.Report.{bits, carriedRows, readReport}
 use Rattle.mirror.specs.Mirror.{merge, shown}
 use Rattle.mirror.specs.Parts.{rowIn, Room, Placed, Takes}
 use Rattle.mirror.specs.Refusals.{ValidReport}
-use Rattle.mirror.proofs.RowByRow.{trues, before, merge-more, before-more, before-most}
+use Rattle.mirror.proofs.RowByRow.{trues, rowsBefore, merge-more, before-more, before-most}
 use Rattle.mirror.proofs.Checks.{length-rows-in, row-at}
 
 -- ---- a row
@@ -58,22 +58,22 @@ module _ (b : List ℕ) (mask r at : ℕ) (t : Bool) (is : t ≡ hasRow mask r) 
 
 -- ---- the rows of the mask
 
-before-lt : (mask r : ℕ) → hasRow mask r ≡ true → before mask r < ones mask
+before-lt : (mask r : ℕ) → hasRow mask r ≡ true → rowsBefore mask r < ones mask
 before-lt mask r h =
-    let e : before mask (suc r) ≡ suc (before mask r) = before-more mask r ∙ pick _ _ _ h in
+    let e : rowsBefore mask (suc r) ≡ suc (rowsBefore mask r) = before-more mask r ∙ pick _ _ _ h in
     omega (arith, e, before-most mask (suc r))
 
 -- those among the first r rows of the record l are replaced, and the next one's place is behind them
 pub record Taken (b : List ℕ) (mask r at : ℕ) (l l′ : List ℕ) : Type 0 where
   pub becomes : Becomes l l′ (merge (bits r mask) (carriedRows (ones mask) (drop ROWS b)) (rowsOf l))
-  pub place : at ≡ ROWS + ROW-SIZE * before mask r
+  pub place : at ≡ ROWS + ROW-SIZE * rowsBefore mask r
 
 module _ (b : List ℕ) (mask : ℕ) where
   carried : List Row
   carried = carriedRows (ones mask) (drop ROWS b)
 
   pub take-start : (l : List ℕ) → length l ≡ SIZE → Taken b mask 0 ROWS l l
-  unfolding merge bits before trues
+  unfolding merge bits rowsBefore trues
   take-start l len = record { becomes = record { size = len; front = refl; rows = refl }; place = refl }
 
   pub room-known : (r at : ℕ) (l m : List ℕ) → length b ≡ ROWS + ROW-SIZE * ones mask → Taken b mask r at l m → Room b mask r at
@@ -91,20 +91,20 @@ module _ (b : List ℕ) (mask : ℕ) where
       where
         go : (h : Bool) → hasRow mask r ≡ h
             → (if h then set (rowsOf m) r (rowIn b at) else rowsOf m)
-            ≡ (if h then set (merge (bits r mask) carried (rowsOf l)) r (getD carried (before mask r) noRow) else merge (bits r mask) carried (rowsOf l))
+            ≡ (if h then set (merge (bits r mask) carried (rowsOf l)) r (getD carried (rowsBefore mask r) noRow) else merge (bits r mask) carried (rowsOf l))
         go true e =
             unfold if_then_else_ in
             ap₂ (λ (x : List Row) (y : Row). set x r y) (a .becomes .rows)
-            (ap (rowIn b) (a .place) ∙ sym (row-at (ones mask) b (before mask r) noRow (before-lt mask r e)))
+            (ap (rowIn b) (a .place) ∙ sym (row-at (ones mask) b (rowsBefore mask r) noRow (before-lt mask r e)))
         go false e = unfold if_then_else_ in a .becomes .rows
 
-    place-eq : n ≡ ROWS + ROW-SIZE * before mask (r + 1)
+    place-eq : n ≡ ROWS + ROW-SIZE * rowsBefore mask (r + 1)
     place-eq =
-        let e : before mask (r + 1) ≡ (if hasRow mask r then suc (before mask r) else before mask r) =
-        ap (before mask) (add-one r) ∙ before-more mask r in
+        let e : rowsBefore mask (r + 1) ≡ (if hasRow mask r then suc (rowsBefore mask r) else rowsBefore mask r) =
+        ap (rowsBefore mask) (add-one r) ∙ before-more mask r in
         s .next ∙ go (hasRow mask r) ∙ ap (λ (k : ℕ). ROWS + ROW-SIZE * k) (sym e)
       where
-        go : (h : Bool) → (if h then at + ROW-SIZE else at) ≡ ROWS + ROW-SIZE * (if h then suc (before mask r) else before mask r)
+        go : (h : Bool) → (if h then at + ROW-SIZE else at) ≡ ROWS + ROW-SIZE * (if h then suc (rowsBefore mask r) else rowsBefore mask r)
         go true = unfold if_then_else_ in omega (arith, a .place)
         go false = unfold if_then_else_ in omega (arith, a .place)
 

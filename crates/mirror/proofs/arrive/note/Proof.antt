@@ -1,8 +1,6 @@
 -- `mirror::arrive::note` meets its contract. Assumes nothing.
 use borrow.Author.Needs.{needs}
-use Rattle.mirror.proofs.RowByRow.{before}
 use Rattle.mirror.proofs.Leaving.{all-bytes, note-done}
-use Rattle.editor.specs.Call.{given}
 use denote.Ref.{now}
 use Rattle.mirror.proofs.arrive.note.Statement.{statement}
 use Rattle.mirror.proofs.arrive.note.Tie as tie
