@@ -5,6 +5,7 @@
 //! At the end the times are set beside each other in a table; the figures that a call is held to are ratios. The table has the least of
 //! the samples, since other work on the machine can only add to a time, and for comparison the ratio of the medians.
 use checks::oracle::{new_record, screen::Screen};
+use checks::reports;
 use criterion::{BenchmarkGroup, Criterion};
 use futonrobin::ffi;
 use std::hint::black_box;
@@ -122,6 +123,50 @@ fn memcpy(criterion: &mut Criterion) {
     group.finish();
 }
 
+/// A screen and the mirror that follows it.
+struct Followed {
+    record: Record,
+    mirror: Vec<u8>,
+    report: Vec<u8>,
+    keys: usize,
+}
+
+impl Followed {
+    fn new(width: u32, start: &[u8]) -> Self {
+        let mut record = Record::new(width);
+        record.print(start);
+        let (mut mirror, mut report) = (vec![0; reports::MIRROR], vec![0; reports::REPORT]);
+        ffi::mirror_new(&mut mirror, width);
+        let length = ffi::report_full(&record.0, &mut report) as usize;
+        assert_eq!(ffi::mirror_arrive(&mut mirror, &report[..length]), 1);
+        Self { record, mirror, report, keys: 0 }
+    }
+
+    /// The step report of the last call arrives.
+    fn step(&mut self) {
+        let length = ffi::report_step(&self.record.0, &mut self.report) as usize;
+        ffi::mirror_arrive(&mut self.mirror, &self.report[..length]);
+    }
+
+    /// A key, its step report and its arrival; after each 255 keys home likewise.
+    fn key(&mut self) {
+        if self.keys % 255 == 0 {
+            self.record.home();
+            self.step();
+        }
+        self.record.key(b'A' + (self.keys % 26) as u8);
+        self.step();
+        self.keys += 1;
+    }
+}
+
+fn followed(criterion: &mut Criterion, width: u32, start: &[u8]) {
+    let mut pair = Followed::new(width, start);
+    let mut group = criterion.benchmark_group(format!("followed {width}"));
+    group.bench_function("archive", |bencher| bencher.iter(|| black_box(&mut pair).key()));
+    group.finish();
+}
+
 fn main() {
     let results = results();
     let mut criterion = Criterion::default().without_plots().output_directory(&results);
@@ -135,6 +180,7 @@ fn main() {
             black_box(screen.width());
         });
         both!(criterion, format!("arrows {width}"), width, &listing[..3_000], |screen| two_arrows(screen));
+        followed(&mut criterion, width, &line);
     }
     table(&results);
 }
@@ -185,5 +231,9 @@ fn table(results: &Path) {
             let medians = ours.median / rusts.median;
             println!("| {what} | {width} | {a:.1} | {b:.1} | {:.2} | {medians:.2} | {:.1} |", a / b, a / copy);
         }
+    }
+    for width in [80, 40] {
+        let a = Time::read(results, &format!("followed {width}"), "archive").least;
+        println!("| a key, its step report and its arrival | {width} | {a:.1} | | | | {:.1} |", a / copy);
     }
 }

@@ -101,6 +101,15 @@ pub fn mirror(newest: u32, rec: &[u8]) -> Vec<u8> {
     mir
 }
 
+/// What a mirror's byte at `at` is, in words, for a message.
+pub fn name(at: usize) -> String {
+    match at.checked_sub(RECORD_AT) {
+        Some(at) => crate::layout::name(at),
+        None if at < NEWEST_AT => "length and version".into(),
+        None => "newest serial".into(),
+    }
+}
+
 /// The layout of a mirror of the right length.
 pub fn valid_mirror(mir: &[u8]) -> bool {
     let rec = &mir[RECORD_AT..];

@@ -3,7 +3,7 @@
 //!
 //! After every arrival a mirror must have the bytes of the Rust's screen after m accepted calls and the newest serial n, with m and n from
 //! a count that sees kinds and serials alone.
-use crate::call::{Call, Kind as CallKind};
+use crate::call::{literal, Call, Kind as CallKind};
 use crate::counts::Counts;
 use crate::judge::{self, refused, Outcome};
 use crate::layout::*;
@@ -244,13 +244,14 @@ impl Receiver {
     /// A damaged slice arrives. Where document 01 does not refuse it, a copy of the mirror takes it: it is no report that was made.
     fn arrive_damaged(&mut self, made: &Made, random: &mut TestRng, counts: &mut Counts) -> Result<(), String> {
         let report = damaged(&made.bytes, random);
-        let (before, want) = (self.mirror.bytes().to_vec(), reports::arrival(self.mirror.bytes(), &report));
-        let mut copy = Lent::new(&before);
+        let want = reports::arrival(self.mirror.bytes(), &report);
+        let mut copy = Lent::new(self.mirror.bytes());
         let mirror = if want.answer > refused(0) { &mut self.mirror } else { &mut copy };
         let lent = Lent::new(&report);
         let answer = ffi::mirror_arrive(mirror.bytes_mut(), lent.bytes());
+        let (number, count) = (self.number, self.count);
         trial::compare(answer, mirror, &lent, &want)
-            .map_err(|difference| format!("mirror {before:?}\ndamaged report {report:?}: {difference}"))?;
+            .map_err(|difference| format!("mirror {number} at {count:?}: {difference}; damaged report {}", literal(&report)))?;
         counts.add(ARRIVALS, 1);
         counts.add(if answer > refused(0) { "refused" } else { "damaged and valid" }, 1);
         Ok(())

@@ -2,6 +2,7 @@
 use crate::call::{literal, Call};
 use crate::judge::{self, Outcome};
 use crate::layout::{self, SIZE};
+use crate::reports::{self, MIRROR};
 
 /// A buffer to lend, between bytes that no call may touch.
 pub struct Lent {
@@ -49,8 +50,12 @@ pub fn compare(answer: u32, rec: &Lent, out: &Lent, want: &Outcome) -> Result<()
         return Err(format!("it answers {}, wanted is {}", spoken(answer), spoken(want.answer)));
     }
     if let Some(at) = first_difference(rec.bytes(), &want.rec) {
-        let place = if want.rec.len() == SIZE { layout::name(at) } else { "of a record of another length".into() };
-        return Err(difference("the record", at, &place, rec.bytes(), &want.rec));
+        let (what, place) = match want.rec.len() {
+            SIZE => ("the record", layout::name(at)),
+            MIRROR => ("the mirror", reports::name(at)),
+            length => ("the first slice", format!("of {length}")),
+        };
+        return Err(difference(what, at, &place, rec.bytes(), &want.rec));
     }
     if let Some(at) = first_difference(out.bytes(), &want.out) {
         let length = if answer > judge::refused(0) { 0 } else { answer as usize };
