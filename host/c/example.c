@@ -1,0 +1,89 @@
+/*
+ * A C host in short: a line is typed and changed on a screen of 40 columns, and a mirror follows by reports, one of which is lost.
+ *
+ *   cc -std=c99 -Wall -Wextra -pedantic -Werror -Iinclude host/c/example.c target/staticlib/libapi.a -o example
+ *
+ * tools/c-example does this, and compares what the program prints with host/c/stdout.
+ */
+#include "futonrobin.h"
+
+#include <inttypes.h>
+#include <stdio.h>
+#include <stdlib.h>
+#include <string.h>
+
+static uint8_t screen[FUTONROBIN_SCREEN_LEN];
+static uint8_t mirror[FUTONROBIN_MIRROR_LEN];
+static uint8_t report[FUTONROBIN_REPORT_MIN];
+
+enum line { ARRIVES, LOST };
+
+/* Hands an accepted answer on. What this host asks is in order, so a refusal is a fault of its own. */
+static uint32_t accepted(const char *what, uint32_t answer)
+{
+    int refusal = futonrobin_refusal(answer);
+    if (refusal != 0) {
+        fprintf(stderr, "%s: refusal %d\n", what, refusal);
+        exit(EXIT_FAILURE);
+    }
+    return answer;
+}
+
+static void arrive(const char *what, uint32_t length)
+{
+    uint32_t level = accepted("mirror_arrive", mirror_arrive(mirror, sizeof mirror, report, length));
+    printf("%-12s %4" PRIu32 " bytes, the mirror is %s\n", what, length, level == 1 ? "level" : "not level");
+}
+
+/* After a changing call: its step report is made before the next call, for it has the rows of the last call only. */
+static uint32_t changed(const char *what, uint32_t answer, enum line line)
+{
+    accepted(what, answer);
+    uint32_t length = accepted("report_step", report_step(screen, sizeof screen, report, sizeof report));
+    if (line == ARRIVES) {
+        arrive(what, length);
+    } else {
+        printf("%-12s %4" PRIu32 " bytes, lost\n", what, length);
+    }
+    return answer;
+}
+
+/* Takes the screen's record and the mirror's alike. */
+static void show(const char *whose, const uint8_t *rec)
+{
+    uint8_t text[FUTONROBIN_SNAPSHOT_MIN];
+    uint32_t length = accepted("screen_snapshot", screen_snapshot(rec, FUTONROBIN_SCREEN_LEN, text, sizeof text));
+    printf("-- the %s shows\n%.*s\n--\n", whose, (int)length, (const char *)text);
+}
+
+int main(void)
+{
+    const char *heading = "Ward 3, Monday\r\n";
+    uint8_t line[FUTONROBIN_LINE_MIN];
+
+    accepted("screen_new", screen_new(screen, sizeof screen, 40));
+    accepted("mirror_new", mirror_new(mirror, sizeof mirror, 40));
+
+    changed("heading", screen_print_bytes(screen, sizeof screen, (const uint8_t *)heading, strlen(heading)), ARRIVES);
+    for (const char *c = "BED7"; *c != '\0'; c++) {
+        changed("type", screen_type_char(screen, sizeof screen, (uint8_t)*c), ARRIVES);
+    }
+    changed("left", screen_move_left(screen, sizeof screen), ARRIVES);
+    changed("insert on", screen_set_insert(screen, sizeof screen, 1), ARRIVES);
+    changed("type a space", screen_type_char(screen, sizeof screen, ' '), LOST);
+    /* This step is early for the mirror: it shows what it had, and says that there is something newer. */
+    changed("end of line", screen_end_of_line(screen, sizeof screen), ARRIVES);
+    show("mirror", mirror + FUTONROBIN_MIRROR_RECORD);
+
+    arrive("full report", accepted("report_full", report_full(screen, sizeof screen, report, sizeof report)));
+
+    uint32_t length = changed("enter", screen_take_logical_line(screen, sizeof screen, line, sizeof line), ARRIVES);
+    printf("the line is \"%.*s\"\n", (int)length, (const char *)line);
+    show("screen", screen);
+    show("mirror", mirror + FUTONROBIN_MIRROR_RECORD);
+
+    /* Refused, and the screen is as it was: there is nothing to report. */
+    uint32_t answer = screen_type_char(screen, sizeof screen, 256);
+    printf("type 256: answer %" PRIu32 ", refusal %d\n", answer, futonrobin_refusal(answer));
+    return futonrobin_refusal(answer) == FUTONROBIN_OUT_OF_RANGE ? EXIT_SUCCESS : EXIT_FAILURE;
+}

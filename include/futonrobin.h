@@ -1,0 +1,165 @@
+/*
+ * The calls that target/staticlib/libapi.a exports, for C99 and C++. docs/ABI.md has the layouts of the buffers, and which
+ * refusals each call can give. host/c/example.c shows a host.
+ *
+ * A slice is lent as a pointer and then a length in bytes; every number is a uint32_t. The proofs assume this of a caller:
+ *
+ *   - A pointer is not null and is valid for its length. Length 0 is fine, with a pointer that is not null.
+ *   - The two slices of one call do not overlap, since one of them is written.
+ *   - During the call nothing else writes a lent slice, and nothing else reads one that the call writes.
+ *
+ * Lengths, contents and numbers may be any: what does not fit is refused, and a refused call changes no lent byte.
+ * There is nothing to set up and no state beside the buffers, which are the host's.
+ */
+#ifndef FUTONROBIN_H
+#define FUTONROBIN_H
+
+#include <stddef.h>
+#include <stdint.h>
+
+#ifdef __cplusplus
+extern "C" {
+#endif
+
+/* ---- Lengths */
+
+/* Buffers of exactly these lengths. */
+#define FUTONROBIN_SCREEN_LEN 4042u
+#define FUTONROBIN_MIRROR_LEN 4049u
+#define FUTONROBIN_KEYS_LEN 160u
+
+/* The shortest outputs that are taken; longer ones are too. The output of keys_strip is exactly the width asked. */
+#define FUTONROBIN_LINE_MIN 255u
+#define FUTONROBIN_SNAPSHOT_MIN 2024u
+#define FUTONROBIN_REPORT_MIN 4043u
+
+/*
+ * Where the mirror's screen record begins: it is mir + FUTONROBIN_MIRROR_RECORD, of length FUTONROBIN_SCREEN_LEN. Reading and
+ * text calls take it as any record, and no other call should be made on it: a changing call would be accepted, and the
+ * mirror would then show what no screen had.
+ */
+#define FUTONROBIN_MIRROR_RECORD 7u
+
+/* ---- Answers */
+
+/* Refusal k answers FUTONROBIN_REFUSED + k. An accepted call answers less than FUTONROBIN_REFUSED + 1. */
+#define FUTONROBIN_REFUSED 4294967040u
+
+/* The refusals, in the order in which they are looked for. */
+enum {
+    FUTONROBIN_WRONG_LENGTH = 1,
+    FUTONROBIN_BROKEN_LAYOUT = 2, /* of a screen, mirror or key table */
+    FUTONROBIN_OUT_OF_RANGE = 3,  /* a number */
+    FUTONROBIN_LAST_SERIAL = 4,   /* a changing call found serial 4,294,967,295 */
+    FUTONROBIN_BROKEN_REPORT = 5, /* its length included */
+    FUTONROBIN_WIDTH_WITHOUT_ROWS = 6
+};
+
+/* The number of the refusal that a call answered; 0 if it was accepted. */
+static inline int futonrobin_refusal(uint32_t answer)
+{
+    return answer > FUTONROBIN_REFUSED ? (int)(answer - FUTONROBIN_REFUSED) : 0;
+}
+
+/* ---- New screen: answers 0. Width 40 gives 40, all else 80. The buffer's old bytes are not read. */
+
+uint32_t screen_new(uint8_t *rec, size_t rec_len, uint32_t width);
+
+/* ---- Changing calls: each adds 1 to the serial and answers 0, but screen_take_logical_line the length of its text. */
+
+/* Prints at the cursor: 13, 10, and 13 followed by 10 are newlines, 27 and 32 to 255 are written, others are ignored. */
+uint32_t screen_print_bytes(uint8_t *rec, size_t rec_len, const uint8_t *bytes, size_t bytes_len);
+
+/* A character 0 to 255; those below 32 but 27 type nothing. */
+uint32_t screen_type_char(uint8_t *rec, size_t rec_len, uint32_t ch);
+
+uint32_t screen_backspace(uint8_t *rec, size_t rec_len);
+uint32_t screen_delete_char(uint8_t *rec, size_t rec_len);
+uint32_t screen_erase_to_end(uint8_t *rec, size_t rec_len);
+uint32_t screen_escape_line(uint8_t *rec, size_t rec_len);
+uint32_t screen_tab(uint8_t *rec, size_t rec_len);
+uint32_t screen_ctrl_enter(uint8_t *rec, size_t rec_len);
+
+/* Enter: writes the reading of the cursor's logical line to the front of out, and the cursor goes below the line. */
+uint32_t screen_take_logical_line(uint8_t *rec, size_t rec_len, uint8_t *out, size_t out_len);
+
+uint32_t screen_break_line(uint8_t *rec, size_t rec_len);
+
+uint32_t screen_move_left(uint8_t *rec, size_t rec_len);
+uint32_t screen_move_right(uint8_t *rec, size_t rec_len);
+uint32_t screen_move_up(uint8_t *rec, size_t rec_len);
+uint32_t screen_move_down(uint8_t *rec, size_t rec_len);
+uint32_t screen_home(uint8_t *rec, size_t rec_len);
+uint32_t screen_word_left(uint8_t *rec, size_t rec_len);
+uint32_t screen_word_right(uint8_t *rec, size_t rec_len);
+uint32_t screen_end_of_line(uint8_t *rec, size_t rec_len);
+
+/* Blanks the editable rows and homes. */
+uint32_t screen_clear(uint8_t *rec, size_t rec_len);
+
+/* Width 40 or 80: blanks all 25 rows, homes, ends insert. */
+uint32_t screen_set_width(uint8_t *rec, size_t rec_len, uint32_t width);
+
+/* Any row and column: they are clamped to the editable rows and the width. */
+uint32_t screen_set_cursor(uint8_t *rec, size_t rec_len, uint32_t row, uint32_t col);
+
+/* A switch is 0 or 1. With keys on the last row is not editable. */
+uint32_t screen_set_insert(uint8_t *rec, size_t rec_len, uint32_t on);
+uint32_t screen_set_attr(uint8_t *rec, size_t rec_len, uint32_t attr);
+uint32_t screen_set_keys_on(uint8_t *rec, size_t rec_len, uint32_t on);
+
+/* ---- Reading calls: each answers its value. */
+
+uint32_t screen_width(const uint8_t *rec, size_t rec_len);
+
+/* column + 256 * row */
+uint32_t screen_cursor(const uint8_t *rec, size_t rec_len);
+
+/* The current attribute: foreground in the low nibble, background in the high one. */
+uint32_t screen_attr(const uint8_t *rec, size_t rec_len);
+
+/* 24 with keys on, else 25 */
+uint32_t screen_editable_rows(const uint8_t *rec, size_t rec_len);
+
+/* character + 256 * attribute, of a row 0 to 24 and a column below the width */
+uint32_t screen_cell(const uint8_t *rec, size_t rec_len, uint32_t row, uint32_t col);
+
+/* 1 if the row, 0 to 24, is flagged: the logical line goes on in the next row. Else 0. */
+uint32_t screen_continues(const uint8_t *rec, size_t rec_len, uint32_t row);
+
+/* ---- Text calls: each writes to the front of out and answers the length; later bytes stay. No byte 0 is added. */
+
+/* The reading of the cursor's logical line, at most 255 bytes. */
+uint32_t screen_logical_text(const uint8_t *rec, size_t rec_len, uint8_t *out, size_t out_len);
+
+/* The editable rows, trimmed on the right and joined by byte 10, without empty ones at the end. */
+uint32_t screen_snapshot(const uint8_t *rec, size_t rec_len, uint8_t *out, size_t out_len);
+
+/* ---- Report calls: each writes a report to the front of out and answers its length. The record stays as it is. */
+
+/* The rows that the last accepted changing call touched. To be made after each such call, before the next. */
+uint32_t report_step(const uint8_t *rec, size_t rec_len, uint8_t *out, size_t out_len);
+
+/* All 25 rows: for a mirror that missed a step. */
+uint32_t report_full(const uint8_t *rec, size_t rec_len, uint8_t *out, size_t out_len);
+
+/* ---- Mirror */
+
+/* Answers 0. The width is that given to screen_new; the buffer's old bytes are not read. */
+uint32_t mirror_new(uint8_t *mir, size_t mir_len, uint32_t width);
+
+/*
+ * A report arrives, of exactly the length that the report call answered. Answers 1 if the mirror is then level (it shows the newest
+ * state that it has heard of), else 0. A report that comes too early or too late is accepted and not shown.
+ */
+uint32_t mirror_arrive(uint8_t *mir, size_t mir_len, const uint8_t *report, size_t report_len);
+
+/* ---- Key strip: the key at the offset, 0 to 9, comes first. Writes width bytes, 40 or 80, and answers the width. */
+
+uint32_t keys_strip(const uint8_t *tab, size_t tab_len, uint32_t offset, uint32_t width, uint8_t *out, size_t out_len);
+
+#ifdef __cplusplus
+}
+#endif
+
+#endif
