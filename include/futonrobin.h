@@ -50,7 +50,7 @@ enum {
     FUTONROBIN_WRONG_LENGTH = 1,
     FUTONROBIN_BROKEN_LAYOUT = 2, /* of a screen, mirror or key table */
     FUTONROBIN_OUT_OF_RANGE = 3,  /* a number */
-    FUTONROBIN_LAST_SERIAL = 4,   /* a changing call found serial 4,294,967,295 */
+    FUTONROBIN_SPENT_SERIAL = 4,  /* a changing call found serial 4,294,967,295 */
     FUTONROBIN_BROKEN_REPORT = 5, /* its length included */
     FUTONROBIN_WIDTH_WITHOUT_ROWS = 6
 };

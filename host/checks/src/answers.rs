@@ -25,7 +25,7 @@ use crate::call::{Call, Kind};
 use crate::judge;
 use crate::layout::*;
 use crate::lists::{self, List, Step};
-use crate::oracle::{self, Oracle};
+use crate::oracle::{self, TextScreen};
 use crate::random::runner;
 use proptest::strategy::{Strategy, ValueTree};
 

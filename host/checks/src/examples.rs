@@ -1,7 +1,7 @@
 //! Document 01's starred examples in text mode, as it writes them, through the archive and the Rust.
 use crate::call::Call;
 use crate::layout::*;
-use crate::oracle::{self, Oracle};
+use crate::oracle::{self, TextScreen};
 use crate::tally::Tally;
 use crate::trial;
 

@@ -1,7 +1,7 @@
 //! Every call from every cursor place on telling screens, and every class of arguments of every call.
 use crate::call::{self, Call};
 use crate::layout::*;
-use crate::oracle::{self, Oracle};
+use crate::oracle::{self, TextScreen};
 use crate::tally::Tally;
 use crate::trial::{self, filler};
 

@@ -2,7 +2,7 @@
 //! accepted call does is the Rust's.
 use crate::call::{Call, Kind};
 use crate::layout::*;
-use crate::oracle::{self, Oracle};
+use crate::oracle::{self, TextScreen};
 use crate::reports;
 
 /// The number answered, and the final bytes of record and output.

@@ -2,7 +2,7 @@
 //!
 //! `oracle` brings in the Rust and says what a record is that holds its screen; `judge` adds document 01's refusals, so that every call on
 //! every bytes has one wanted outcome; `trial` makes a call through the archive and compares. The runs are in `random`, `exhaustive`,
-//! `examples` and `refusals`; `answers` is the file of recorded answers. `strip` has the runs of the key strip, `simulator` those of
+//! `examples`, `refusals` and `drop_in`; `answers` is the file of recorded answers. `strip` has the runs of the key strip, `simulator` those of
 //! reports and mirrors, for which `reports` has document 01's rules.
 #![forbid(unsafe_code)]
 
@@ -10,6 +10,7 @@ pub mod answers;
 pub mod call;
 pub mod corners;
 pub mod counts;
+pub mod drop_in;
 pub mod examples;
 pub mod exhaustive;
 pub mod judge;

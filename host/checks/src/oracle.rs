@@ -4,8 +4,11 @@ use crate::layout::{self, *};
 
 include!(concat!(env!("OUT_DIR"), "/oracle.rs"));
 
-/// The Rust's screen, unchanged or opened.
-pub trait Oracle {
+/// The text-mode methods of the Rust's `Screen`: its own, unchanged or opened, and the drop-in one, which has them by name and signature.
+pub trait TextScreen {
+    fn new(width: usize) -> Self;
+    fn print_str(&mut self, s: &str);
+    fn set_width(&mut self, width: usize) -> bool;
     /// An accepted changing call; the text that it submits, which only `take_logical_line` does.
     fn change(&mut self, call: &Call) -> Vec<u8>;
     /// The number that a reading call answers.
@@ -16,9 +19,21 @@ pub trait Oracle {
     fn write(&self, rec: &mut [u8]);
 }
 
-macro_rules! oracle {
+macro_rules! text_screen {
     ($screen:ty) => {
-        impl Oracle for $screen {
+        impl TextScreen for $screen {
+            fn new(width: usize) -> Self {
+                <$screen>::new(width)
+            }
+
+            fn print_str(&mut self, s: &str) {
+                self.print_str(s)
+            }
+
+            fn set_width(&mut self, width: usize) -> bool {
+                self.set_width(width)
+            }
+
             fn change(&mut self, call: &Call) -> Vec<u8> {
                 match *call {
                     Call::PrintBytes(ref bytes) => self.print_bytes(bytes),
@@ -93,8 +108,9 @@ macro_rules! oracle {
     };
 }
 
-oracle!(screen::Screen);
-oracle!(opened::Screen);
+text_screen!(screen::Screen);
+text_screen!(opened::Screen);
+text_screen!(futonrobin::drop_in::Screen);
 
 /// One byte stands for one character of the Rust's strings.
 fn bytes_of(text: String) -> Vec<u8> {
@@ -119,7 +135,7 @@ pub fn new_record(width: u32) -> Vec<u8> {
 }
 
 /// The record after an accepted changing call on `before`: the Rust's screen, the next serial, and the rows that differ.
-pub fn record_after(before: &[u8], screen: &impl Oracle) -> Vec<u8> {
+pub fn record_after(before: &[u8], screen: &impl TextScreen) -> Vec<u8> {
     let mut after = vec![0; SIZE];
     screen.write(&mut after);
     set_serial(&mut after, serial(before) + 1);

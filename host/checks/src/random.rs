@@ -3,7 +3,7 @@ use crate::call::{Call, Kind};
 use crate::judge::{self, Outcome};
 use crate::layout::*;
 use crate::lists::{self, List, Step};
-use crate::oracle::{self, Oracle};
+use crate::oracle::{self, TextScreen};
 use crate::records::{self, Sketch};
 use crate::reports;
 use crate::tally::Tally;

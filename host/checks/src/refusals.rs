@@ -2,7 +2,7 @@
 use crate::call::{self, Call, Kind};
 use crate::judge;
 use crate::layout::*;
-use crate::oracle::{self, Oracle};
+use crate::oracle::{self, TextScreen};
 use crate::random::runner;
 use crate::reports::{self, REPORT};
 use crate::tally::Tally;

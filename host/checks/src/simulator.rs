@@ -8,7 +8,7 @@ use crate::counts::Counts;
 use crate::judge::{self, refused, Outcome};
 use crate::layout::*;
 use crate::lists::{self, List, Step};
-use crate::oracle::{self, Oracle};
+use crate::oracle::{self, TextScreen};
 use crate::random::{runner, try_all, Game};
 use crate::refusals::sample;
 use crate::reports::{self, Count, Kind, ALL_ROWS, MIRROR, RECORD_AT, REPORT};

@@ -5,7 +5,7 @@ use crate::judge::{over, refused, Outcome};
 use crate::oracle::keys::FunctionKeys;
 use crate::random::runner;
 use crate::trial::{self, filler, Lent};
-use futonrobin::ffi;
+use futonrobin::{ffi, KeyTable};
 use proptest::prelude::RngCore;
 use proptest::test_runner::TestRng;
 
@@ -118,6 +118,9 @@ fn standard_macros() -> Vec<Vec<u8>> {
 /// The standard table, compared with the Rust's own standard keys, and document 01's example.
 pub fn standard(counts: &mut Counts) -> Result<(), String> {
     let tab = table(&standard_macros());
+    if tab != KeyTable::standard().as_bytes() {
+        return Err("the standard table of the crate futonrobin is not the Rust's".into());
+    }
     every_offset(&tab, counts)?;
     let mut keys = FunctionKeys::standard();
     for width in WIDTHS {

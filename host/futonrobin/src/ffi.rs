@@ -3,6 +3,9 @@
 //! No exported function has a precondition: each is proved for slices of every length and content, and reads and writes inside of
 //! them only. So a pointer and a length that come from one living slice are all that is asked of a caller, and that is what
 //! the functions here hand over. A slice crosses as its pointer and then its length, every number is a `u32`.
+//!
+//! The names are document 01's calls; docs/ABI.md says of each what it answers and refuses.
+#![allow(missing_docs)]
 
 /// Calls on one record or mirror that is lent to be written, and numbers.
 macro_rules! changing {

@@ -1,5 +1,48 @@
-//! The archive's calls for Rust. So far the calls as they are exported, on lent bytes: `ffi`.
+//! The proved text screen and its mirror, for Rust.
+//!
+//! [`Screen`], [`Mirror`], [`Report`] and [`KeyTable`] own their bytes and are valid from the moment they exist; what they do is done by the
+//! archive of the Rattle crates, whose functions are proved. A call that document 01 refuses answers a [`Refusal`] and changes nothing. What
+//! a screen or a mirror shows is read by the trait [`Shown`].
+//!
+//! [`drop_in::Screen`] has the text-mode methods of the BASIC runtime's own `Screen`, by name and signature.
+//!
+//! ```
+//! use futonrobin::{Mirror, Screen, Shown};
+//!
+//! let mut screen = Screen::new(80);
+//! let mut mirror = Mirror::new(80);
+//! for ch in *b"WARD 7" {
+//!     screen.type_char(ch)?;
+//!     let level = mirror.arrive(screen.report_step())?;
+//!     assert!(level);
+//! }
+//! screen.home()?; // its report is lost
+//! screen.type_char(b'w')?;
+//! assert!(!mirror.arrive(screen.report_step())?); // early: the mirror knows that it is behind
+//! assert_eq!(mirror.snapshot(), b"WARD 7");
+//! assert!(mirror.arrive(screen.report_full())?);
+//! assert_eq!(mirror.snapshot(), b"wARD 7");
+//! # Ok::<(), futonrobin::Refusal>(())
+//! ```
+//!
+//! No dependency, and `unsafe` in one file, `ffi`.
 #![deny(unsafe_code)]
+#![warn(missing_docs)]
 
+pub mod drop_in;
 #[allow(unsafe_code)]
 pub mod ffi;
+mod keys;
+pub mod layout;
+mod mirror;
+mod refusal;
+mod report;
+mod screen;
+mod shown;
+
+pub use keys::KeyTable;
+pub use mirror::Mirror;
+pub use refusal::Refusal;
+pub use report::{Kind, Report};
+pub use screen::Screen;
+pub use shown::{Cell, Shown};

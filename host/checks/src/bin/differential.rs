@@ -4,13 +4,14 @@
 //! round with the seed after the last, until the minutes are over.
 use checks::options::{options, verdict};
 use checks::tally::{add_round, report, Part, Tally};
-use checks::{examples, exhaustive, random, refusals};
+use checks::{drop_in, examples, exhaustive, random, refusals};
 use std::process::exit;
 use std::time::Instant;
 
 const RANDOM_LISTS: &str = "random lists from a new screen";
 const LISTS: u32 = 3_000;
 const RECORDS: u32 = 150_000;
+const DRIVEN: u32 = 1_500;
 
 fn part(name: &'static str, run: impl FnOnce(&mut Tally) -> Result<(), String>) -> Part {
     println!("{name} ..");
@@ -27,6 +28,7 @@ fn random_parts(seed: u64) -> Vec<Part> {
     vec![
         part(RANDOM_LISTS, |tally| random::random_lists(seed, LISTS, tally)),
         part("single calls on random valid records", |tally| random::random_records(seed, RECORDS, tally)),
+        part("random lists through the drop-in screen", |tally| drop_in::random_lists(seed, DRIVEN, tally)),
         part("refusals: random damages, 10,000 a call", |tally| refusals::random_damage(seed, tally)),
     ]
 }
@@ -37,6 +39,7 @@ fn fixed_parts() -> Vec<Part> {
         part("document 01's starred examples", examples::starred),
         part("every call from every place, 28 screens", exhaustive::every_place),
         part("every class of arguments", exhaustive::every_argument),
+        part("what panics, in the drop-in screen too", drop_in::panics),
         part("refusals: lengths", refusals::every_length),
         part("refusals: serials", refusals::serials),
         part("refusals: order", refusals::order),

@@ -1,0 +1,31 @@
+//! Lengths of the buffers, and the fields that no exported call answers. Document 01, "The cell grid" and "Reports and mirror".
+
+/// Bytes of a screen record.
+pub const SCREEN: usize = 4042;
+/// Bytes of a mirror.
+pub const MIRROR: usize = 4049;
+/// Bytes of a key table.
+pub const KEY_TABLE: usize = 160;
+/// The longest report, and the shortest output for one.
+pub const REPORT: usize = 4043;
+/// The longest logical line, and the shortest output for one.
+pub const LINE: usize = 255;
+/// The shortest output for a snapshot.
+pub const SNAPSHOT: usize = 2024;
+
+pub(crate) const INSERT_AT: usize = 6;
+pub(crate) const SERIAL_AT: usize = 9;
+pub(crate) const TOUCHED: std::ops::Range<usize> = 13..17;
+
+pub(crate) const NEWEST_AT: usize = 3;
+/// From here on a mirror is a screen record.
+pub(crate) const SHOWN_AT: usize = 7;
+
+pub(crate) const KIND_AT: usize = 3;
+pub(crate) const REPORT_SERIAL_AT: usize = 4;
+pub(crate) const REPORT_WIDTH_AT: usize = 12;
+
+/// The big-endian number in the four bytes from `at` on.
+pub(crate) fn number(bytes: &[u8], at: usize) -> u32 {
+    bytes[at..at + 4].iter().fold(0, |number, &byte| number << 8 | u32::from(byte))
+}

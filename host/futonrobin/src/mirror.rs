@@ -1,0 +1,60 @@
+//! The second screen, which follows the first by reports.
+use crate::layout::{number, MIRROR, NEWEST_AT, SHOWN_AT};
+use crate::shown::kept;
+use crate::{ffi, Refusal, Shown};
+
+/// A mirror of its own. Nothing but arrivals changes it.
+///
+/// New at its screen's width, it shows that screen after the first m accepted calls, whatever the line does to reports: [`Shown::serial`] is
+/// m. It is level if m is the newest serial that it has heard of.
+#[derive(Clone, PartialEq, Eq)]
+pub struct Mirror {
+    bytes: Vec<u8>,
+}
+
+impl Mirror {
+    /// A new mirror, for a screen that is new at this width.
+    pub fn new(width: u32) -> Self {
+        let mut bytes = vec![0; MIRROR];
+        kept(ffi::mirror_new(&mut bytes, width));
+        Self { bytes }
+    }
+
+    /// A mirror from bytes that were kept elsewhere. Refused are wrong lengths and broken layouts.
+    pub fn from_bytes(bytes: &[u8]) -> Result<Self, Refusal> {
+        let mut mirror = Self { bytes: bytes.to_vec() };
+        // Length and layout of a mirror are judged before the report, and no report is empty.
+        match mirror.arrive([]) {
+            Err(Refusal::BrokenReport) => Ok(mirror),
+            Err(refusal) => Err(refusal),
+            Ok(_) => unreachable!("an empty report is refused"),
+        }
+    }
+
+    /// A report arrives, or anything else that came over the line. It answers whether the mirror is then level. Refused are
+    /// broken reports, and steps that change the width without all rows.
+    pub fn arrive(&mut self, report: impl AsRef<[u8]>) -> Result<bool, Refusal> {
+        Ok(Refusal::of_answer(ffi::mirror_arrive(&mut self.bytes, report.as_ref()))? == 1)
+    }
+
+    /// The newest serial that it has heard of.
+    pub fn newest(&self) -> u32 {
+        number(&self.bytes, NEWEST_AT)
+    }
+
+    /// Whether it shows the newest serial that it has heard of.
+    pub fn is_level(&self) -> bool {
+        self.serial() == self.newest()
+    }
+
+    /// All its bytes, to be kept elsewhere.
+    pub fn as_bytes(&self) -> &[u8] {
+        &self.bytes
+    }
+}
+
+impl Shown for Mirror {
+    fn record(&self) -> &[u8] {
+        &self.bytes[SHOWN_AT..]
+    }
+}

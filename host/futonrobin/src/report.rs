@@ -1,0 +1,57 @@
+//! Reports, as they are made from a screen or taken from a line.
+use crate::layout::{number, KIND_AT, REPORT_SERIAL_AT, REPORT_WIDTH_AT};
+use crate::{Mirror, Refusal};
+
+/// What a report carries.
+#[derive(Clone, Copy, PartialEq, Eq, Debug)]
+pub enum Kind {
+    /// The rows that the last accepted call has changed.
+    Step,
+    /// All rows.
+    Full,
+}
+
+/// A report that keeps document 01's layout.
+#[derive(Clone, PartialEq, Eq)]
+pub struct Report {
+    bytes: Vec<u8>,
+}
+
+impl Report {
+    pub(crate) fn of_call(bytes: Vec<u8>) -> Self {
+        Self { bytes }
+    }
+
+    /// A report from bytes of any origin. A broken layout is refused.
+    pub fn from_bytes(bytes: &[u8]) -> Result<Self, Refusal> {
+        // Arrival is the call that judges a report. At a new mirror of the report's own width nothing else can refuse it.
+        let width = bytes.get(REPORT_WIDTH_AT).copied().unwrap_or_default();
+        Mirror::new(width.into()).arrive(bytes)?;
+        Ok(Self { bytes: bytes.to_vec() })
+    }
+
+    /// The bytes for the line.
+    pub fn as_bytes(&self) -> &[u8] {
+        &self.bytes
+    }
+
+    /// What it carries.
+    pub fn kind(&self) -> Kind {
+        if self.bytes[KIND_AT] == 1 {
+            Kind::Step
+        } else {
+            Kind::Full
+        }
+    }
+
+    /// How many changing calls the screen had accepted when the report was made.
+    pub fn serial(&self) -> u32 {
+        number(&self.bytes, REPORT_SERIAL_AT)
+    }
+}
+
+impl AsRef<[u8]> for Report {
+    fn as_ref(&self) -> &[u8] {
+        &self.bytes
+    }
+}

@@ -1,0 +1,113 @@
+//! The screen that is typed on.
+use crate::layout::{LINE, REPORT, SCREEN};
+use crate::shown::{kept, text};
+use crate::{ffi, Refusal, Report, Shown};
+
+/// A screen record of its own. Every changing call may be refused for a spent serial, after 4,294,967,295 of them; where another refusal is
+/// possible the method says so.
+#[derive(Clone, PartialEq, Eq)]
+pub struct Screen {
+    record: Vec<u8>,
+}
+
+/// Changing calls that have no arguments, or arguments whose types leave nothing to refuse.
+macro_rules! changing {
+    ($($(#[$what:meta])* $name:ident($($number:ident: $type:ty),*) = $call:ident;)*) => {
+        $($(#[$what])*
+        pub fn $name(&mut self $(, $number: $type)*) -> Result<(), Refusal> {
+            Refusal::of_answer(ffi::$call(&mut self.record $(, u32::from($number))*)).map(drop)
+        })*
+    };
+}
+
+impl Screen {
+    /// A new screen: 40 columns if asked for 40, else 80.
+    pub fn new(width: u32) -> Self {
+        let mut record = vec![0; SCREEN];
+        kept(ffi::screen_new(&mut record, width));
+        Self { record }
+    }
+
+    /// A screen from a record that was kept elsewhere. Refused are wrong lengths and broken layouts.
+    pub fn from_bytes(record: &[u8]) -> Result<Self, Refusal> {
+        Refusal::of_answer(ffi::screen_width(record))?;
+        Ok(Self { record: record.to_vec() })
+    }
+
+    /// Prints: 13, 10 and 13 followed by 10 are a newline; 27 and 32 to 255 are written; the others are ignored. A 13 and its 10 belong
+    /// into one call.
+    pub fn print_bytes(&mut self, bytes: &[u8]) -> Result<(), Refusal> {
+        Refusal::of_answer(ffi::screen_print_bytes(&mut self.record, bytes)).map(drop)
+    }
+
+    /// Submits the logical line under the cursor: its text.
+    pub fn take_logical_line(&mut self) -> Result<Vec<u8>, Refusal> {
+        let mut out = vec![0; LINE];
+        let length = Refusal::of_answer(ffi::screen_take_logical_line(&mut self.record, &mut out))?;
+        out.truncate(length as usize);
+        Ok(out)
+    }
+
+    changing! {
+        /// Types a character at the cursor, inserting or over what stands there.
+        type_char(ch: u8) = screen_type_char;
+        /// Drops the character before the cursor; in column 0 the one under it.
+        backspace() = screen_backspace;
+        /// Drops the character under the cursor.
+        delete_char() = screen_delete_char;
+        /// Drops the line's characters from the cursor on.
+        erase_to_end() = screen_erase_to_end;
+        /// Takes the logical line out; those below move up.
+        escape_line() = screen_escape_line;
+        /// To the next multiple of 8; with insert on, by typing spaces.
+        tab() = screen_tab;
+        /// Joins the next row to this line and goes there.
+        ctrl_enter() = screen_ctrl_enter;
+        /// To the next row, without submitting.
+        break_line() = screen_break_line;
+        /// One cell to the left.
+        move_left() = screen_move_left;
+        /// One cell to the right.
+        move_right() = screen_move_right;
+        /// One row up.
+        move_up() = screen_move_up;
+        /// One row down.
+        move_down() = screen_move_down;
+        /// To the first cell.
+        home() = screen_home;
+        /// To the start of the word before.
+        word_left() = screen_word_left;
+        /// To the start of the next word.
+        word_right() = screen_word_right;
+        /// Behind the last character of the logical line.
+        end_of_line() = screen_end_of_line;
+        /// Blanks the editable rows and goes home.
+        clear() = screen_clear;
+        /// Blanks all rows at the new width, 40 or 80; other widths are refused.
+        set_width(width: u32) = screen_set_width;
+        /// Sets the cursor, at most to the last editable row and the last column.
+        set_cursor(row: u32, col: u32) = screen_set_cursor;
+        /// Whether typing inserts.
+        set_insert(on: bool) = screen_set_insert;
+        /// The attribute of what is written from now on.
+        set_attr(attr: u8) = screen_set_attr;
+        /// Whether the last row is the key strip's.
+        set_keys_on(on: bool) = screen_set_keys_on;
+    }
+
+    /// The step report: what the last accepted call has changed.
+    pub fn report_step(&self) -> Report {
+        Report::of_call(text(REPORT, |out| kept(ffi::report_step(&self.record, out))))
+    }
+
+    /// The full report: all that the screen shows.
+    pub fn report_full(&self) -> Report {
+        Report::of_call(text(REPORT, |out| kept(ffi::report_full(&self.record, out))))
+    }
+}
+
+impl Shown for Screen {
+    fn record(&self) -> &[u8] {
+        &self.record
+    }
+}

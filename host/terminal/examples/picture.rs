@@ -1,0 +1,72 @@
+//! The picture of the two screens: the recorded keys over a bad line, at 40 columns, as an SVG on standard output. The mirror is a few calls
+//! behind, and says so.
+use std::time::Instant;
+use terminal::canvas::{differing, Canvas, Size};
+use terminal::halves::{Halves, FAULTS};
+use terminal::played::recorded;
+use terminal::terminal::Input;
+
+/// One that leaves the mirror behind at the end.
+const SEED: u64 = 1;
+const SIZE: Size = Size { cols: 81, rows: 36 };
+/// A character's place, in points.
+const WIDE: usize = 9;
+const HIGH: usize = 18;
+
+/// The sixteen colours of a text attribute.
+const COLOURS: [&str; 16] = [
+    "#000000", "#0000aa", "#00aa00", "#00aaaa", "#aa0000", "#aa00aa", "#aa5500", "#aaaaaa", "#555555", "#5555ff", "#55ff55", "#55ffff",
+    "#ff5555", "#ff55ff", "#ffff55", "#ffffff",
+];
+
+fn main() {
+    let now = Instant::now();
+    let mut halves = Halves::new(40, FAULTS, SEED, now);
+    for key in recorded() {
+        halves.input(Input::Key(key), now);
+        halves.tick(now);
+    }
+    print!("{}", svg(&halves.canvas(SIZE, now)));
+}
+
+fn svg(canvas: &Canvas) -> String {
+    let (width, height) = (WIDE * SIZE.cols, HIGH * SIZE.rows);
+    let mut lines = vec![
+        format!(r#"<svg xmlns="http://www.w3.org/2000/svg" viewBox="0 0 {width} {height}" width="{width}" height="{height}">"#),
+        r#"<style>text { font: 15px "DejaVu Sans Mono", monospace; }</style>"#.into(),
+        format!(r#"<rect width="{width}" height="{height}"/>"#),
+    ];
+    for row in 0..SIZE.rows {
+        for (col, text, attr) in differing(None, canvas.row(row)) {
+            lines.extend(stretch(row, col, &text, attr));
+        }
+    }
+    if let Some((row, col)) = canvas.cursor {
+        lines.push(rect(row, col, 1, 7));
+    }
+    lines.push("</svg>\n".into());
+    lines.join("\n")
+}
+
+fn rect(row: usize, col: usize, cols: usize, colour: u8) -> String {
+    let (x, y, width, fill) = (WIDE * col, HIGH * row, WIDE * cols, COLOURS[colour as usize]);
+    format!(r#"<rect x="{x}" y="{y}" width="{width}" height="{HIGH}" fill="{fill}"/>"#)
+}
+
+/// A background that is not black, and the text without the spaces at its ends.
+fn stretch(row: usize, col: usize, text: &str, attr: u8) -> Vec<String> {
+    let mut parts = Vec::new();
+    if attr >> 4 != 0 {
+        parts.push(rect(row, col, text.chars().count(), attr >> 4));
+    }
+    let inner = text.trim();
+    if !inner.is_empty() {
+        let before = text.chars().take_while(|c| c.is_whitespace()).count();
+        let (x, y, length) = (WIDE * (col + before), HIGH * row + 14, WIDE * inner.chars().count());
+        // Not every program that shows SVG keeps several spaces; those that do not break are kept by all.
+        let inner = inner.replace('&', "&amp;").replace('<', "&lt;").replace(' ', "\u{a0}");
+        let fill = COLOURS[(attr & 15) as usize];
+        parts.push(format!(r#"<text x="{x}" y="{y}" fill="{fill}" textLength="{length}" lengthAdjust="spacingAndGlyphs">{inner}</text>"#));
+    }
+    parts
+}

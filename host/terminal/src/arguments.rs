@@ -1,0 +1,94 @@
+//! The words after `./run`.
+use crate::line::Faults;
+use std::net::{SocketAddr, ToSocketAddrs};
+
+pub const HELP: &str = "\
+./run                                 the candidate's screen and the invigilator's mirror in one terminal
+./run candidate --to HOST:PORT        the candidate's screen; its reports go to that address
+./run invigilator --listen HOST:PORT  the mirror of the candidate whose reports come there; port 0 is any free one
+
+  --width 40|80                       columns of the new screen (not for the invigilator)
+  --loss N  --repeat N  --reorder N   how many datagrams in a hundred the line loses, repeats, reorders (likewise)
+  --seed N                            what decides which ones (likewise); printed where it matters
+  --keys FILE                         for candidate and invigilator, without a terminal: the candidate presses these keys,
+                                      the invigilator compares its mirror with them after every arrival
+  --help                              these lines
+
+Without a terminal on standard input ./run plays recorded keys over a bad line, prints both screens and the verdict.
+";
+
+#[derive(Clone, Copy, PartialEq, Eq, Debug)]
+pub enum Place {
+    Both,
+    To(SocketAddr),
+    Listen(SocketAddr),
+    Help,
+}
+
+#[derive(PartialEq, Eq, Debug)]
+pub struct Arguments {
+    pub place: Place,
+    pub width: Option<u32>,
+    pub faults: Option<Faults>,
+    pub seed: Option<u64>,
+    pub keys: Option<String>,
+}
+
+/// What the words ask for, or a sentence about the first that cannot be taken.
+pub fn read(words: impl IntoIterator<Item = String>) -> Result<Arguments, String> {
+    let mut words = words.into_iter().peekable();
+    let program = words.next_if(|word| !word.starts_with('-'));
+    let mut arguments = Arguments { place: Place::Both, width: None, faults: None, seed: None, keys: None };
+    let mut address = None;
+    while let Some(word) = words.next() {
+        let mut value = || words.next().ok_or_else(|| format!("{word} needs a value after it; ./run --help lists the words"));
+        match (word.as_str(), program.as_deref()) {
+            ("--help", _) => return Ok(Arguments { place: Place::Help, ..arguments }),
+            ("--to", Some("candidate")) => address = Some(Place::To(an_address(&value()?, 1)?)),
+            ("--listen", Some("invigilator")) => address = Some(Place::Listen(an_address(&value()?, 0)?)),
+            ("--keys", Some("candidate" | "invigilator")) => arguments.keys = Some(value()?),
+            ("--width", None | Some("candidate")) => arguments.width = Some(a_width(&value()?)?),
+            ("--seed", None | Some("candidate")) => arguments.seed = Some(a_number(&word, &value()?, u64::MAX)?),
+            ("--loss" | "--repeat" | "--reorder", None | Some("candidate")) => {
+                let percent = a_number(&word, &value()?, 100)? as u32;
+                let faults = arguments.faults.get_or_insert_with(Faults::default);
+                match word.as_str() {
+                    "--loss" => faults.loss = percent,
+                    "--repeat" => faults.repeat = percent,
+                    _ => faults.reorder = percent,
+                }
+            }
+            _ => return Err(format!("'{word}' is not understood here; ./run --help lists the words")),
+        }
+    }
+    arguments.place = match (program.as_deref(), address) {
+        (None, _) => Place::Both,
+        (Some("candidate" | "invigilator"), Some(place)) => place,
+        (Some("candidate"), None) => return Err("an address to send to is missing: ./run candidate --to HOST:PORT".into()),
+        (Some("invigilator"), None) => return Err("an address to listen on is missing: ./run invigilator --listen HOST:PORT".into()),
+        (Some(word), _) => return Err(format!("there is no program '{word}'; ./run --help lists the words")),
+    };
+    Ok(arguments)
+}
+
+fn an_address(text: &str, lowest: u16) -> Result<SocketAddr, String> {
+    let (host, port) = text.rsplit_once(':').ok_or_else(|| format!("'{text}' is no address: HOST:PORT is wanted, as in 127.0.0.1:4000"))?;
+    let port = port.parse::<u16>().ok().filter(|&port| port >= lowest);
+    let port = port.ok_or_else(|| format!("the port of '{text}' is not a number from {lowest} to 65535"))?;
+    let host = host.trim_start_matches('[').trim_end_matches(']');
+    let found = (host, port).to_socket_addrs().map_err(|problem| format!("the host of '{text}' was not found: {problem}"))?.next();
+    found.ok_or_else(|| format!("the host of '{text}' has no address"))
+}
+
+fn a_width(text: &str) -> Result<u32, String> {
+    match text {
+        "40" => Ok(40),
+        "80" => Ok(80),
+        _ => Err(format!("--width takes 40 or 80, not '{text}'")),
+    }
+}
+
+fn a_number(word: &str, text: &str, most: u64) -> Result<u64, String> {
+    let number = text.parse().ok().filter(|&number| number <= most);
+    number.ok_or_else(|| format!("{word} takes a number from 0 to {most}, not '{text}'"))
+}

@@ -1,0 +1,146 @@
+//! One terminal in two halves: the candidate's screen, the invigilator's mirror, and a simulated line between them.
+use crate::canvas::{Canvas, Size, PLAIN, STRONG};
+use crate::desk::Desk;
+use crate::follower::{Follower, State};
+use crate::keys::Key;
+use crate::line::{Faults, Line};
+use crate::sender::Sender;
+use crate::terminal::{Input, Terminal};
+use futonrobin::{Report, Shown};
+use std::io;
+use std::time::{Duration, Instant};
+
+const TICK: Duration = Duration::from_millis(50);
+/// The line to begin with: bad enough to be seen.
+pub const FAULTS: Faults = Faults { loss: 10, repeat: 10, reorder: 30 };
+const PERCENTAGES: [u32; 5] = [0, 10, 30, 60, 100];
+
+/// Under a row of titles and the screens: state, line, help, and a row for the last submitted line.
+const ROWS: usize = 1 + 25 + 4;
+const HELP: &str = "Ctrl-: Q leave, X cut, L loss, R repeat, O reorder; A colour, K keys, W width";
+
+pub struct Halves {
+    pub desk: Desk,
+    pub sender: Sender,
+    pub follower: Follower,
+}
+
+impl Halves {
+    pub fn new(width: u32, faults: Faults, seed: u64, now: Instant) -> Self {
+        let (desk, sender) = (Desk::new(width), Sender::new(width, Line::new(faults, seed), now));
+        let mut halves = Self { desk, sender, follower: Follower::default() };
+        halves.send(&[halves.desk.screen.report_full()], now);
+        halves
+    }
+
+    pub fn send(&mut self, reports: &[Report], now: Instant) {
+        for report in reports {
+            let arriving = self.sender.send(report, now);
+            self.arrive(arriving, now);
+        }
+    }
+
+    fn arrive(&mut self, datagrams: impl IntoIterator<Item = Vec<u8>>, now: Instant) {
+        for datagram in datagrams {
+            self.follower.receive(&datagram, now);
+        }
+    }
+
+    /// Time passes: the line lets go of what it held back, and a full report may be due.
+    pub fn tick(&mut self, now: Instant) {
+        let released = self.sender.release();
+        self.arrive(released, now);
+        let full = self.sender.full_if_due(&self.desk.screen, now);
+        self.arrive(full, now);
+    }
+
+    pub fn input(&mut self, input: Input, now: Instant) {
+        let line = &mut self.sender.line;
+        match input {
+            Input::Key(key) => match self.desk.press(key) {
+                Ok(reports) => self.send(&reports, now),
+                Err(refusal) => self.desk.submitted.push(format!("({refusal})")),
+            },
+            Input::Loss => line.faults.loss = next_percentage(line.faults.loss),
+            Input::Repeat => line.faults.repeat = next_percentage(line.faults.repeat),
+            Input::Reorder => line.faults.reorder = next_percentage(line.faults.reorder),
+            Input::Cut => line.cut = !line.cut,
+            Input::Leave | Input::Follow | Input::Redraw => {}
+        }
+    }
+
+    fn needed(&self) -> Size {
+        let mirrored = self.follower.mirror().map_or(0, |mirror| mirror.width());
+        let width = self.desk.screen.width().max(mirrored) as usize;
+        Size { cols: 2 * width + 1, rows: ROWS }
+    }
+
+    pub fn canvas(&self, size: Size, now: Instant) -> Canvas {
+        Canvas::if_it_fits(self.needed(), size, "Ctrl-W for the other width, or Ctrl-Q to leave", |canvas| self.paint(canvas, now))
+    }
+
+    fn paint(&self, canvas: &mut Canvas, now: Instant) {
+        let right = self.needed().cols / 2 + 1;
+        let Desk { screen, table, submitted } = &self.desk;
+        canvas.text(0, 0, "CANDIDATE", STRONG);
+        canvas.screen(1, 0, screen, table);
+        let (row, col) = screen.cursor();
+        canvas.cursor = Some((1 + row as usize, col as usize));
+
+        canvas.text(0, right, "INVIGILATOR", STRONG);
+        (1..26).for_each(|row| canvas.text(row, right - 1, "│", PLAIN));
+        if let Some(mirror) = self.follower.mirror() {
+            canvas.screen(1, right, mirror, table);
+            let (row, col) = mirror.cursor();
+            canvas.reverse(1 + row as usize, right + col as usize);
+        }
+
+        let (shows, state) = (self.follower.shows(), self.follower.state(now));
+        let insert = if screen.insert_mode() { "INS" } else { "" };
+        canvas.text(26, 0, &format!("serial {} {insert}", screen.serial()), PLAIN);
+        canvas.text(26, right, &format!("m {}  n {}  {state}", shows.m, shows.n), if state == State::Level { PLAIN } else { STRONG });
+        canvas.text(27, 0, &self.line(), PLAIN);
+        canvas.text(28, 0, HELP, PLAIN);
+        list(canvas, 29, submitted);
+    }
+
+    fn line(&self) -> String {
+        let line = &self.sender.line;
+        let Faults { loss, repeat, reorder } = line.faults;
+        let cut = if line.cut { "CUT, " } else { "" };
+        format!("line: {cut}loss {loss}%, repeat {repeat}%, reorder {reorder}%; lost {}, held back {}", line.lost, line.held())
+    }
+}
+
+/// The last submitted lines, in the rows from `top` on.
+pub fn list(canvas: &mut Canvas, top: usize, submitted: &[String]) {
+    let rows = canvas.size.rows.saturating_sub(top);
+    let first = submitted.len().saturating_sub(rows);
+    for (at, line) in submitted[first..].iter().enumerate() {
+        canvas.text(top + at, 0, &format!("submitted {}: {line}", first + at + 1), PLAIN);
+    }
+}
+
+fn next_percentage(now: u32) -> u32 {
+    PERCENTAGES.into_iter().find(|&percentage| percentage > now).unwrap_or(0)
+}
+
+/// Runs until the key to leave is pressed.
+pub fn run(width: Option<u32>, faults: Option<Faults>, seed: u64) -> io::Result<()> {
+    let mut terminal = Terminal::enter()?;
+    let size = terminal.size()?;
+    let widest = if size.cols > 160 { 80 } else { 40 };
+    let mut halves = Halves::new(width.unwrap_or(widest), faults.unwrap_or(FAULTS), seed, Instant::now());
+    loop {
+        let size = terminal.size()?;
+        terminal.show(halves.canvas(size, Instant::now()))?;
+        match terminal.next(TICK)? {
+            Some(Input::Leave) => return Ok(()),
+            // Nobody types on a screen that is not shown.
+            Some(Input::Key(key)) if key != Key::Width && !halves.needed().fits(size) => {}
+            Some(input) => halves.input(input, Instant::now()),
+            None => {}
+        }
+        halves.tick(Instant::now());
+    }
+}

@@ -1,0 +1,69 @@
+//! A bad line: it loses, repeats and reorders what is sent over it. The seed decides what happens.
+use oorandom::Rand32;
+
+/// How often each happens in a hundred datagrams.
+#[derive(Clone, Copy, PartialEq, Eq, Default, Debug)]
+pub struct Faults {
+    pub loss: u32,
+    pub repeat: u32,
+    pub reorder: u32,
+}
+
+impl Faults {
+    /// The line of the recorded session and of the long test.
+    pub const BAD: Faults = Faults { loss: 30, repeat: 30, reorder: 100 };
+}
+
+/// Held back are at most so many; any of them may come next.
+const HELD: usize = 16;
+
+pub struct Line {
+    pub faults: Faults,
+    /// Nothing passes.
+    pub cut: bool,
+    pub lost: u64,
+    held: Vec<Vec<u8>>,
+    random: Rand32,
+}
+
+impl Line {
+    pub fn new(faults: Faults, seed: u64) -> Self {
+        Self { faults, cut: false, lost: 0, held: Vec::new(), random: Rand32::new(seed) }
+    }
+
+    /// Sends a datagram; those that arrive now, in their order.
+    pub fn send(&mut self, datagram: Vec<u8>) -> Vec<Vec<u8>> {
+        let mut arriving = Vec::new();
+        let copies = if self.happens(self.faults.repeat) { 2 } else { 1 };
+        for _ in 0..copies {
+            if self.cut || self.happens(self.faults.loss) {
+                self.lost += 1;
+            } else if self.happens(self.faults.reorder) {
+                self.held.push(datagram.clone());
+            } else {
+                arriving.push(datagram.clone());
+            }
+        }
+        while self.held.len() > HELD {
+            arriving.extend(self.release());
+        }
+        arriving
+    }
+
+    /// One of those held back arrives; none while the line is cut.
+    pub fn release(&mut self) -> Option<Vec<u8>> {
+        if self.cut || self.held.is_empty() {
+            return None;
+        }
+        let next = self.random.rand_range(0..self.held.len() as u32);
+        Some(self.held.swap_remove(next as usize))
+    }
+
+    pub fn held(&self) -> usize {
+        self.held.len()
+    }
+
+    fn happens(&mut self, percent: u32) -> bool {
+        self.random.rand_range(0..100) < percent
+    }
+}

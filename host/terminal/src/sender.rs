@@ -1,0 +1,65 @@
+//! The candidate's end of the line: which reports go out, and when.
+use crate::datagram::{self, Datagram, Run};
+use crate::line::Line;
+use futonrobin::{Kind, Report, Screen};
+use std::hash::{BuildHasher, Hasher};
+use std::time::{Duration, Instant};
+
+/// After so long without a report, a full one.
+const SILENCE: Duration = Duration::from_secs(1);
+/// And one at least so often, or after so many steps, whichever comes first.
+const OFTEN: Duration = Duration::from_secs(3);
+const STEPS: u32 = 25;
+
+pub struct Sender {
+    pub run: Run,
+    pub line: Line,
+    pub sent: u64,
+    last: Instant,
+    last_full: Instant,
+    steps: u32,
+}
+
+impl Sender {
+    pub fn new(width: u32, line: Line, now: Instant) -> Self {
+        let run = Run { number: random_number(), width: if width == 40 { 40 } else { 80 } };
+        Self { run, line, sent: 0, last: now, last_full: now, steps: 0 }
+    }
+
+    /// Sends a report; the datagrams that leave the line now.
+    pub fn send(&mut self, report: &Report, now: Instant) -> Vec<Vec<u8>> {
+        self.last = now;
+        if report.kind() == Kind::Full {
+            self.last_full = now;
+            self.steps = 0;
+        } else {
+            self.steps += 1;
+        }
+        let datagram = datagram::write(self.run, Datagram::Report(report.as_bytes()));
+        let leaving = self.line.send(datagram);
+        self.sent += leaving.len() as u64;
+        leaving
+    }
+
+    /// The full report, if one is due: the line was silent, or the last is long ago.
+    pub fn full_if_due(&mut self, screen: &Screen, now: Instant) -> Vec<Vec<u8>> {
+        let due = now - self.last >= SILENCE || now - self.last_full >= OFTEN || self.steps >= STEPS;
+        if due {
+            self.send(&screen.report_full(), now)
+        } else {
+            Vec::new()
+        }
+    }
+
+    /// What the line held back and lets go now.
+    pub fn release(&mut self) -> Option<Vec<u8>> {
+        let leaving = self.line.release();
+        self.sent += leaving.is_some() as u64;
+        leaving
+    }
+}
+
+/// A hasher of the standard library is keyed from the system's randomness.
+pub fn random_number() -> u64 {
+    std::collections::hash_map::RandomState::new().build_hasher().finish()
+}

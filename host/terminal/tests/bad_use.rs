@@ -1,0 +1,64 @@
+//! Words that cannot be taken get a sentence on standard error and a status that is not 0.
+use std::net::UdpSocket;
+use std::process::{Command, Output, Stdio};
+
+fn screens(words: &str) -> Output {
+    Command::new(env!("CARGO_BIN_EXE_screens")).args(words.split_whitespace()).stdin(Stdio::null()).output().unwrap()
+}
+
+fn refused(words: &str, status: i32, sentence: &str) {
+    let done = screens(words);
+    let told = String::from_utf8(done.stderr).unwrap();
+    assert_eq!((done.status.code(), told.lines().count()), (Some(status), 1), "{words}: {told}");
+    assert!(told.contains(sentence), "{words}: {told}");
+    assert!(done.stdout.is_empty(), "{words}: nothing was begun");
+}
+
+#[test]
+fn words() {
+    refused("candiate", 2, "there is no program 'candiate'");
+    refused("--lost 3", 2, "'--lost' is not understood here");
+    refused("candidate --listen 127.0.0.1:4000", 2, "'--listen' is not understood here");
+    refused("candidate more --to 127.0.0.1:4000", 2, "'more' is not understood here");
+    refused("--loss", 2, "--loss needs a value after it");
+    refused("--loss 101", 2, "--loss takes a number from 0 to 100, not '101'");
+    refused("--width 60", 2, "--width takes 40 or 80, not '60'");
+    refused("--seed x", 2, "--seed takes a number");
+}
+
+#[test]
+fn addresses() {
+    refused("candidate", 2, "an address to send to is missing");
+    refused("invigilator", 2, "an address to listen on is missing");
+    refused("candidate --to 127.0.0.1", 2, "'127.0.0.1' is no address");
+    refused("candidate --to 127.0.0.1:65536", 2, "the port of '127.0.0.1:65536' is not a number from 1 to 65535");
+    refused("candidate --to 127.0.0.1:0", 2, "is not a number from 1 to 65535");
+    refused("invigilator --listen 127.0.0.1:70000", 2, "is not a number from 0 to 65535");
+    refused("invigilator --listen 127.0.0.1:x", 2, "is not a number from 0 to 65535");
+    refused("invigilator --listen 256.0.0.1:4000", 2, "the host of '256.0.0.1:4000' was not found");
+    refused("invigilator --listen 192.0.2.1:4000 --keys /dev/null", 1, "is no address of this machine");
+    let taken = UdpSocket::bind("127.0.0.1:0").unwrap();
+    let address = taken.local_addr().unwrap();
+    refused(&format!("invigilator --listen {address} --keys /dev/null"), 1, &format!("{address} is in use"));
+}
+
+#[test]
+fn keys_and_terminals() {
+    refused("candidate --to 127.0.0.1:4000", 1, "there is no terminal to type on");
+    refused("candidate --to 127.0.0.1:4000 --keys no-such-file", 1, "no-such-file: ");
+    let file = format!("{}/bad-keys-{}", env!("CARGO_TARGET_TMPDIR"), std::process::id());
+    std::fs::write(&file, "A<Entr>").unwrap();
+    refused(&format!("candidate --to 127.0.0.1:4000 --keys {file}"), 1, "there is no key <Entr>");
+    std::fs::remove_file(file).unwrap();
+}
+
+#[test]
+fn help_and_the_recorded_keys() {
+    let help = screens("--help");
+    assert!(help.status.success() && String::from_utf8(help.stdout).unwrap().contains("./run candidate --to HOST:PORT"));
+    for words in ["", "--width 40", "--loss 60 --repeat 60 --reorder 60", "--loss 100"] {
+        let played = screens(words);
+        let told = String::from_utf8(played.stdout).unwrap();
+        assert!(played.status.success() && told.contains("\nAS PROVED: "), "{words}: {told}");
+    }
+}

@@ -1,0 +1,166 @@
+//! The candidate's screen and the invigilator's mirror in one terminal.
+use crate::pane::{Pane, Shown};
+
+const COLS: usize = 161;
+const ROWS: usize = 36;
+const GOOD_LINE: &str = "--width 80 --loss 0 --repeat 0 --reorder 0 --seed 1";
+
+fn start(name: &str, words: &str) -> Pane {
+    let pane = Pane::screens(name, COLS, ROWS, words);
+    pane.wait_for("1LIST");
+    pane
+}
+
+fn candidate(shown: &Shown) -> Vec<String> {
+    shown.rows(1, 0, 80)
+}
+
+fn invigilator(shown: &Shown) -> Vec<String> {
+    shown.rows(1, 81, 80)
+}
+
+/// Waits until the mirror is level and its half shows what the candidate's does.
+fn wait_for_level(pane: &Pane) -> Vec<String> {
+    let shown = pane.wait("both halves alike, and LEVEL", |shown| shown.has("LEVEL") && candidate(shown) == invigilator(shown));
+    candidate(&shown)
+}
+
+#[test]
+fn typing_editing_wrapping_submitting() {
+    let pane = start("typing", GOOD_LINE);
+    pane.write("10 WARD 7, BED 21");
+    pane.wait_for_cursor(1, 17);
+    pane.press("BSpace BSpace");
+    pane.write("12 FREE");
+    pane.wait("the correction", |shown| candidate(shown)[0] == "10 WARD 7, BED 12 FREE");
+    // Words, insert and delete.
+    pane.press("Home C-Right");
+    pane.wait_for_cursor(1, 3);
+    pane.press("IC");
+    pane.wait_for("INS");
+    pane.write("OUR ");
+    pane.press("IC DC");
+    pane.write("w");
+    pane.wait("the insertion", |shown| candidate(shown)[0] == "10 OUR wRD 7, BED 12 FREE");
+    pane.press("C-Left C-Left");
+    pane.wait_for_cursor(1, 3);
+    pane.press("Enter");
+    pane.wait_for("submitted 1: 10 OUR wRD 7, BED 12 FREE");
+    // A line longer than a row is one line.
+    let long = format!("20 REM {}", "beds ".repeat(20));
+    pane.write(&long);
+    pane.wait("the row's end passed", |shown| candidate(shown)[2].ends_with("beds"));
+    pane.press("Up End");
+    pane.wait_for_cursor(3, 26);
+    pane.press("Enter");
+    pane.wait_for(&format!("submitted 2: {}", long.trim_end()));
+    let rows = wait_for_level(&pane);
+    assert_eq!(rows[0], "10 OUR wRD 7, BED 12 FREE");
+}
+
+#[test]
+fn the_other_keys() {
+    let pane = start("keys", GOOD_LINE);
+    pane.press("F1 Tab");
+    pane.wait_for_cursor(1, 8);
+    pane.write("10-30");
+    pane.press("Enter");
+    pane.wait_for("submitted 1: LIST    10-30");
+    pane.press("F2");
+    pane.wait_for("submitted 2: RUN");
+    pane.write("30 FIRST");
+    pane.press("C-j");
+    pane.wait_for_cursor(4, 0);
+    pane.write("SECOND");
+    pane.press("Enter");
+    pane.wait_for("submitted 3: 30 FIRST");
+    pane.write("40 gone");
+    pane.press("Escape");
+    pane.wait("the line gone", |shown| !shown.has("40 gone"));
+    pane.press("Up Up End C-e Home C-End");
+    pane.wait("the first line erased", |shown| candidate(shown)[0].is_empty());
+    pane.press("Down Down C-c");
+    pane.wait_for_cursor(4, 0);
+    // Code page 437, a colour, the row under the key strip.
+    pane.press("C-a");
+    pane.write("Süd ½ ß");
+    pane.wait("typed characters", |shown| candidate(shown)[3].starts_with("Süd ½ ß"));
+    assert!(pane.coloured().contains("\u{1b}[38;5;11m"), "bright yellow is shown: {:?}", pane.coloured());
+    pane.press("C-k");
+    pane.wait("no key strip", |shown| !shown.has("1LIST"));
+    pane.press("C-k");
+    pane.wait_for("1LIST");
+    wait_for_level(&pane);
+    pane.press("C-Home");
+    pane.wait("a clear screen", |shown| candidate(shown)[..24].iter().all(|row| row.is_empty()));
+    wait_for_level(&pane);
+}
+
+#[test]
+fn the_other_width() {
+    let pane = start("width", GOOD_LINE);
+    pane.press("C-w");
+    pane.write("AT FORTY COLUMNS");
+    let shown = pane.wait("both at 40 columns", |shown| shown.lines[1].matches("AT FORTY COLUMNS").count() == 2);
+    assert_eq!(shown.rows(1, 0, 40), shown.rows(1, 41, 40));
+}
+
+#[test]
+fn the_line_cut_and_joined() {
+    let pane = start("cut", GOOD_LINE);
+    pane.write("BEFORE");
+    wait_for_level(&pane);
+    pane.press("C-x");
+    pane.wait_for("line: CUT");
+    pane.write(" AND AFTER");
+    pane.wait("what is typed on one half alone", |shown| candidate(shown)[0] == "BEFORE AND AFTER" && invigilator(shown)[0] == "BEFORE");
+    // The candidate's half cannot say so, but the mirror must not be called level for long.
+    pane.wait_for("SILENT for");
+    pane.press("C-x");
+    pane.wait("the line joined", |shown| !shown.has("CUT"));
+    assert_eq!(wait_for_level(&pane)[0], "BEFORE AND AFTER");
+}
+
+#[test]
+fn faults_that_are_changed_while_it_runs() {
+    let pane = start("faults", GOOD_LINE);
+    pane.press("C-l C-l C-r C-r C-o C-o C-o C-o");
+    pane.wait_for("loss 30%, repeat 30%, reorder 100%");
+    pane.write(&"bad line, good keys; ".repeat(11));
+    pane.press("Enter");
+    pane.wait_for("submitted 1: bad line");
+    pane.press("C-l C-l C-l C-r C-r C-r C-o");
+    pane.wait_for("loss 0%, repeat 0%, reorder 0%");
+    assert!(wait_for_level(&pane)[0].starts_with("bad line, good keys; bad line"));
+}
+
+#[test]
+fn resized() {
+    let pane = start("resized", GOOD_LINE);
+    pane.write("STAYS");
+    wait_for_level(&pane);
+    pane.resize(100, 20);
+    pane.wait_for("The terminal is too small");
+    pane.write("not taken");
+    pane.resize(COLS, ROWS);
+    pane.wait_for("STAYS");
+    assert_eq!(wait_for_level(&pane)[0], "STAYS");
+}
+
+#[test]
+fn leaving_restores_the_terminal() {
+    let pane = Pane::start("leaving", COLS, ROWS, "sh");
+    let modes = |after: &str| {
+        pane.write(&format!("echo {after} $(stty -g)\n"));
+        let shown = pane.wait(after, |shown| shown.lines.iter().any(|line| line.starts_with(after)));
+        shown.lines.iter().find_map(|line| line.strip_prefix(after).map(str::to_string)).unwrap()
+    };
+    let before = modes("before");
+    pane.write(&format!("{} {GOOD_LINE}\n", env!("CARGO_BIN_EXE_screens")));
+    pane.wait_for("1LIST");
+    pane.press("C-q");
+    pane.wait("the shell again", |shown| shown.has("before") && !shown.has("1LIST"));
+    assert_eq!(modes("after"), before);
+    pane.write("echo cursor $((6 * 7))\n");
+    pane.wait_for("cursor 42");
+}

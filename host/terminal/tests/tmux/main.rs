@@ -1,0 +1,4 @@
+//! The programs in a real terminal, as a person uses them. Every step waits for what the screen shows.
+mod halves;
+mod pane;
+mod two_terminals;

@@ -1,0 +1,107 @@
+//! A terminal of tmux with a program in it: keys go in, what is shown is read, and one waits for what should be shown.
+use std::process::Command;
+use std::thread::sleep;
+use std::time::{Duration, Instant};
+
+/// Longer than anything here takes; a test that waits so long has failed.
+const DEADLINE: Duration = Duration::from_secs(60);
+
+pub struct Pane {
+    server: String,
+}
+
+impl Pane {
+    /// Starts a command in a terminal of this size, with a tmux server of its own.
+    pub fn start(name: &str, cols: usize, rows: usize, command: &str) -> Self {
+        let pane = Self { server: format!("futonrobin-{}-{name}", std::process::id()) };
+        let (cols, rows) = (cols.to_string(), rows.to_string());
+        pane.tmux(&["-f", "/dev/null", "new-session", "-d", "-x", &cols, "-y", &rows, command]);
+        pane
+    }
+
+    /// The program of this package with these words.
+    pub fn screens(name: &str, cols: usize, rows: usize, words: &str) -> Self {
+        Self::start(name, cols, rows, &format!("{} {words}", env!("CARGO_BIN_EXE_screens")))
+    }
+
+    fn tmux(&self, words: &[&str]) -> String {
+        let done = Command::new("tmux").args(["-u", "-L", &self.server]).args(words).output();
+        let done = done.expect("tmux, in which these tests run the programs, is at hand (host/setup installs it)");
+        assert!(done.status.success(), "tmux {words:?}: {}", String::from_utf8_lossy(&done.stderr));
+        String::from_utf8(done.stdout).expect("tmux tells in UTF-8")
+    }
+
+    /// Keys by tmux's names: `Left`, `C-Home`, `BSpace`.
+    pub fn press(&self, keys: &str) {
+        let keys: Vec<_> = keys.split_whitespace().collect();
+        self.tmux(&[&["send-keys"], &keys[..]].concat());
+    }
+
+    pub fn write(&self, text: &str) {
+        self.tmux(&["send-keys", "-l", text]);
+    }
+
+    pub fn resize(&self, cols: usize, rows: usize) {
+        self.tmux(&["resize-window", "-x", &cols.to_string(), "-y", &rows.to_string()]);
+    }
+
+    pub fn shown(&self) -> Shown {
+        Shown { lines: self.tmux(&["capture-pane", "-p"]).lines().map(str::to_string).collect() }
+    }
+
+    /// What is shown, with the escapes for its colours.
+    pub fn coloured(&self) -> String {
+        self.tmux(&["capture-pane", "-p", "-e"])
+    }
+
+    /// Row and column of the terminal's cursor.
+    pub fn cursor(&self) -> (usize, usize) {
+        let place = self.tmux(&["display-message", "-p", "#{cursor_y} #{cursor_x}"]);
+        let (row, col) = place.trim().split_once(' ').expect("two numbers");
+        (row.parse().unwrap(), col.parse().unwrap())
+    }
+
+    /// Waits until that is shown.
+    pub fn wait(&self, what: &str, seen: impl Fn(&Shown) -> bool) -> Shown {
+        let begun = Instant::now();
+        loop {
+            let shown = self.shown();
+            if seen(&shown) {
+                return shown;
+            }
+            assert!(begun.elapsed() < DEADLINE, "never seen: {what}. Shown is\n{}", shown.lines.join("\n"));
+            sleep(Duration::from_millis(20));
+        }
+    }
+
+    pub fn wait_for(&self, text: &str) -> Shown {
+        self.wait(text, |shown| shown.has(text))
+    }
+
+    pub fn wait_for_cursor(&self, row: usize, col: usize) {
+        self.wait(&format!("the cursor in row {row}, column {col}"), |_| self.cursor() == (row, col));
+    }
+}
+
+impl Drop for Pane {
+    fn drop(&mut self) {
+        // The server has ended by itself if its program has.
+        let _ = Command::new("tmux").args(["-L", &self.server, "kill-server"]).output();
+    }
+}
+
+pub struct Shown {
+    pub lines: Vec<String>,
+}
+
+impl Shown {
+    pub fn has(&self, text: &str) -> bool {
+        self.lines.iter().any(|line| line.contains(text))
+    }
+
+    /// So many columns of the 25 rows of a screen, without spaces at the ends.
+    pub fn rows(&self, top: usize, left: usize, width: usize) -> Vec<String> {
+        let row = |line: &String| line.chars().skip(left).take(width).collect::<String>().trim_end().to_string();
+        self.lines.iter().skip(top).take(25).map(row).collect()
+    }
+}
