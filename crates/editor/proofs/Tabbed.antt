@@ -21,7 +21,7 @@ use Rattle.grid.proofs.Nibbles.{attr-back}
 use Rattle.grid.proofs.Record.{rows-bytes}
 use Rattle.grid.proofs.Bytes.{whole4, rows-back}
 use Rattle.line.specs.Given.{Known}
-use Rattle.editor.specs.Typing.{typeChar, sameCursor, typeSpaces, tab}
+use Rattle.editor.specs.Typing.{typeChar, sameCursor, typeSpaces, nextStop, tab}
 use Rattle.editor.specs.Call.{TypeChar, Tab, inRange, rule, apply}
 use Rattle.editor.specs.Given.{Copied, Ends, SpaceTyped, tabbed}
 use Rattle.editor.proofs.KeptCall.{apply-facts}
@@ -164,13 +164,14 @@ module _ (l : List ℕ) (h : Head) (known : Known l h) where
   ih : h ≡ headOf l
   ih = known .head
 
-  pub tab-typed : (m : List ℕ) (g : Head) → h .insert ≡ 1
-      → Ends (typeSpaces ((h .cursor .col / 8 + 1) * 8 - h .cursor .col) (screenOf l)) m g → Ends (apply Tab (screenOf l)) m g
+  pub tab-typed : (m : List ℕ) (g : Head) (t : ℕ) → h .insert ≡ 1 → t ≡ nextStop (h .cursor .col)
+      → Ends (typeSpaces (t - h .cursor .col) (screenOf l)) m g → Ends (apply Tab (screenOf l)) m g
   unfolding apply rule tab if_then_else_
-  tab-typed m g i ends =
+  tab-typed m g t i et ends =
       let s : screenOf l ≡ record { head = h; rows = rowsOf l } = λ j. record { head = sym ih j; rows = rowsOf l } in
-      let k : ℕ = (h .cursor .col / 8 + 1) * 8 - h .cursor .col in
-      rw (← ih, eq-eqb (h .insert) 1 i) (subst (λ (x : Screen). Ends (typeSpaces k x) m g) s ends)
+      let stop = subst (λ (x : ℕ). Ends (typeSpaces (x - h .cursor .col) (screenOf l)) m g) et ends in
+      let k : ℕ = nextStop (h .cursor .col) - h .cursor .col in
+      rw (← ih, eq-eqb (h .insert) 1 i) (subst (λ (x : Screen). Ends (typeSpaces k x) m g) s stop)
 
   off : (h .insert ≡ 1 → ⊥) → eqb (h .insert) 1 ≡ false
   off ne = ne-eqb _ _ ne
@@ -179,30 +180,42 @@ module _ (l : List ℕ) (h : Head) (known : Known l h) where
   unfolding apply rule tab tabbed if_then_else_ moveTo
   tab-done g c i ec eg =
       let e : g ≡ withCursor h (tabbed h) = eg ∙ ap (withCursor h) ec in
-      rw (← ih, off i) (go (ltb ((h .cursor .col / 8 + 1) * 8) (h .width)) (ltb (h .cursor .row + 1) (editable (h .keys))) refl refl e)
+      rw (← ih, off i) (go (ltb (nextStop (h .cursor .col)) (h .width)) (ltb (h .cursor .row + 1) (editable (h .keys))) refl refl e)
     where
       s : Screen
       s = record { head = h; rows = rowsOf l }
 
-      go : (a b : Bool) → ltb ((h .cursor .col / 8 + 1) * 8) (h .width) ≡ a → ltb (h .cursor .row + 1) (editable (h .keys)) ≡ b
-          → g ≡ withCursor h (if a then at (h .cursor .row) ((h .cursor .col / 8 + 1) * 8) else if b then at (h .cursor .row + 1) 0 else h .cursor)
-          → Ends (if a then moveTo s (at (h .cursor .row) ((h .cursor .col / 8 + 1) * 8)) else if b then moveTo s (at (h .cursor .row + 1) 0) else s) l g
+      go : (a b : Bool) → ltb (nextStop (h .cursor .col)) (h .width) ≡ a → ltb (h .cursor .row + 1) (editable (h .keys)) ≡ b
+          → g ≡ withCursor h (if a then at (h .cursor .row) (nextStop (h .cursor .col)) else if b then at (h .cursor .row + 1) 0 else h .cursor)
+          → Ends (if a then moveTo s (at (h .cursor .row) (nextStop (h .cursor .col))) else if b then moveTo s (at (h .cursor .row + 1) 0) else s) l g
       go true b ea eb e = record { size = known .size; rows = refl; head = e }
       go false true ea eb e = record { size = known .size; rows = refl; head = e }
       go false false ea eb e = record { size = known .size; rows = refl; head = e }
 
+-- ---- next_stop
+
+pub next-stop : (c t : ℕ) → t ≡ (c / 8 + 1) * 8 → t ≡ nextStop c
+unfolding nextStop
+next-stop c t e = e
+
+pub after-stop : (c t : ℕ) → t ≡ (c / 8 + 1) * 8 → c < t
+after-stop c t e = omega arith
+
 -- ---- tab_cursor
 
-module _ (h : Head) where
-  pub tab-column : (c : Cursor) → (h .cursor .col / 8 + 1) * 8 < h .width → c ≡ at (h .cursor .row) ((h .cursor .col / 8 + 1) * 8) → c ≡ tabbed h
+module _ (h : Head) (t : ℕ) (stop : t ≡ nextStop (h .cursor .col)) where
+  pub tab-column : (c : Cursor) → t < h .width → c ≡ at (h .cursor .row) t → c ≡ tabbed h
   unfolding tabbed
-  tab-column c k e = picked _ _ _ _ (lt-ltb _ _ k) e
+  tab-column c k e = picked _ _ _ _ (lt-ltb _ _ (subst (λ (x : ℕ). x < h .width) stop k)) (e ∙ ap (at (h .cursor .row)) stop)
 
-  pub tab-row : (c : Cursor) (e : ℕ) → h .width ≤ (h .cursor .col / 8 + 1) * 8 → e ≡ editable (h .keys) → h .cursor .row + 1 < e
-      → c ≡ at (h .cursor .row + 1) 0 → c ≡ tabbed h
+  pub tab-row : (c : Cursor) (e : ℕ) → h .width ≤ t → e ≡ editable (h .keys) → h .cursor .row + 1 < e → c ≡ at (h .cursor .row + 1) 0 → c ≡ tabbed h
   unfolding tabbed
-  tab-row c e k ie r ec = skipped _ _ _ _ (le-ltb _ _ k) (picked _ _ _ _ (lt-ltb (h .cursor .row + 1) (editable (h .keys)) (omega arith)) ec)
+  tab-row c e k ie r ec =
+      skipped _ _ _ _ (le-ltb _ _ (subst (λ (x : ℕ). h .width ≤ x) stop k))
+      (picked _ _ _ _ (lt-ltb (h .cursor .row + 1) (editable (h .keys)) (omega arith)) ec)
 
-  pub tab-nowhere : (e : ℕ) → h .width ≤ (h .cursor .col / 8 + 1) * 8 → e ≡ editable (h .keys) → e ≤ h .cursor .row + 1 → h .cursor ≡ tabbed h
+  pub tab-nowhere : (e : ℕ) → h .width ≤ t → e ≡ editable (h .keys) → e ≤ h .cursor .row + 1 → h .cursor ≡ tabbed h
   unfolding tabbed
-  tab-nowhere e k ie r = skipped _ _ _ _ (le-ltb _ _ k) (skipped _ _ _ _ (le-ltb (h .cursor .row + 1) (editable (h .keys)) (omega arith)) refl)
+  tab-nowhere e k ie r =
+      skipped _ _ _ _ (le-ltb _ _ (subst (λ (x : ℕ). h .width ≤ x) stop k))
+      (skipped _ _ _ _ (le-ltb (h .cursor .row + 1) (editable (h .keys)) (omega arith)) refl)

@@ -1,6 +1,6 @@
 -- What the functions of `editor` are given, and what some of them hand on: facts and names for contracts, beside the rules.
 -- Assumes nothing.
-use Prim.Native.Nat.{ℕ, _+_, _-_, _*_, _/_}
+use Prim.Native.Nat.{ℕ, _+_, _-_, _*_}
 use mathlib.Core.Path.{_≡_}
 use mathlib.Core.Bool.{Bool, _&&_}
 use mathlib.Core.List.{List}
@@ -15,7 +15,7 @@ use Rattle.grid.specs.declared.cursor.Cursor.{Cursor}
 use Rattle.grid.specs.declared.head.Head.{Head}
 use Rattle.line.specs.Line.{MAX-LOGICAL, startOf, endOf, reading}
 use Rattle.editor.specs.Print.{rowIsBlank}
-use Rattle.editor.specs.Typing.{typeChar}
+use Rattle.editor.specs.Typing.{typeChar, nextStop}
 
 -- the record rec, and a copy of it to read from while rec is written
 pub record Copied (rec old : List ℕ) : Type 0 where
@@ -39,7 +39,7 @@ pub record SpaceTyped (l l′ : List ℕ) (h : Head) : Type 0 where
 unfoldable pub tabbed : Head → Cursor
 tabbed h =
     let r = h .cursor .row in
-    let t = (h .cursor .col / 8 + 1) * 8 in
+    let t = nextStop (h .cursor .col) in
     if ltb t (h .width) then at r t else if ltb (r + 1) (editable (h .keys)) then at (r + 1) 0 else h .cursor
 
 -- the test that holds `ctrl_enter` back: the cursor is on its span's last row, and the line would be too long with the next one

@@ -62,12 +62,15 @@ typeSpaces (suc k) s =
     let more = typeSpaces k t in
     if sameCursor (s .head .cursor) (t .head .cursor) then t else more
 
--- t is the next multiple of 8 after the column
+-- the next multiple of 8 after column c
+unfoldable pub nextStop : ℕ → ℕ
+nextStop c = (c / 8 + 1) * 8
+
 unfoldable pub tab : Screen → Screen
 tab s =
     let r = s .head .cursor .row in
     let c = s .head .cursor .col in
-    let t = (c / 8 + 1) * 8 in
+    let t = nextStop c in
     let typed = typeSpaces (t - c) s in
     if eqb (s .head .insert) 1 then typed
     else if ltb t (s .head .width) then moveTo s (at r t)

@@ -6,13 +6,14 @@ use grid::cursor::Cursor;
 use grid::head;
 use grid::head::Head;
 use grid::row;
+ghost use Prim.Native.Nat.{_<_};
 ghost use mathlib.Core.Path.{_≡_};
 ghost use mathlib.Core.List.{_++_};
 ghost use lib.ListN.{length, drop};
 ghost use Rattle.grid.specs.Layout.{SIZE, FLAGS};
 ghost use Rattle.grid.specs.Record.{screenOf, serialOf, touchedOf, frontBytes};
 ghost use Rattle.grid.specs.Facts.{HeadFacts, HeadFits, Valid};
-ghost use Rattle.editor.specs.Typing.{sameCursor, typeSpaces};
+ghost use Rattle.editor.specs.Typing.{sameCursor, typeSpaces, nextStop};
 ghost use Rattle.editor.specs.Call.{Tab, apply};
 ghost use Rattle.editor.specs.Given.{SpaceTyped, Ends, tabbed};
 
@@ -62,13 +63,20 @@ fn type_spaces(rec: &mut [u8], n: usize) -> Head
     head_of(rec)
 }
 
+fn next_stop(c: usize) -> usize
+    requires { ⌜ c < 80 ⌝ }
+    ensures { λ t. ⌜ (t ≡ nextStop c) × (c < t) ⌝ }
+{
+    (c / 8 + 1) * 8
+}
+
 // Where tab goes with insert off.
 fn tab_cursor(h: Head) -> Cursor
     requires { ⌜ HeadFacts h ⌝ }
     ensures { λ c. ⌜ c ≡ tabbed h ⌝ }
 {
     let r = h.cursor.row;
-    let t = (h.cursor.col / 8 + 1) * 8;
+    let t = next_stop(h.cursor.col);
     if t < h.width {
         return Cursor::new(r, t);
     }
@@ -85,7 +93,7 @@ pub fn tab(rec: &mut [u8]) -> Head
     let h = head_of(rec);
     let c = h.cursor.col;
     if h.insert == 1 {
-        return type_spaces(rec, (c / 8 + 1) * 8 - c);
+        return type_spaces(rec, next_stop(c) - c);
     }
     with_cursor(h, tab_cursor(h))
 }

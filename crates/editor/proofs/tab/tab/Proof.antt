@@ -1,17 +1,14 @@
 -- `editor::tab::tab` meets its contract. Assumes nothing.
 use borrow.Author.Needs.{needs}
-use Rattle.editor.proofs.Tabbed.{tab-typed, tab-done}
+use Rattle.editor.proofs.Tabbed.{tab-done, tab-typed}
 use Rattle.editor.proofs.tab.tab.Statement.{statement}
 use Rattle.editor.proofs.tab.tab.Tie as tie
 
 head-of-requires : tie.Need-head-of-requires
 head-of-requires c κs = search needs
 
-add-type-spaces : tie.Need-add-type-spaces
-add-type-spaces c = search needs
-
-mul-type-spaces : tie.Need-mul-type-spaces
-mul-type-spaces c = search needs
+next-stop-requires : tie.Need-next-stop-requires
+next-stop-requires c κs = search needs
 
 sub-type-spaces : tie.Need-sub-type-spaces
 sub-type-spaces c = search needs
@@ -42,8 +39,7 @@ tab-spec =
     tie.close
     (tie.spec
     head-of-requires
-    add-type-spaces
-    mul-type-spaces
+    next-stop-requires
     sub-type-spaces
     type-spaces-requires
     same-length

@@ -1,14 +1,11 @@
 -- `editor::tab::tab_cursor` meets its contract. Assumes nothing.
 use borrow.Author.Needs.{needs}
-use Rattle.editor.proofs.Tabbed.{tab-column, tab-row, tab-nowhere}
+use Rattle.editor.proofs.Tabbed.{tab-column, tab-nowhere, tab-row}
 use Rattle.editor.proofs.tab.tab_cursor.Statement.{statement}
 use Rattle.editor.proofs.tab.tab_cursor.Tie as tie
 
-add-t : tie.Need-add-t
-add-t c = search needs
-
-mul-t : tie.Need-mul-t
-mul-t c = search needs
+next-stop-requires : tie.Need-next-stop-requires
+next-stop-requires c κs = search needs
 
 new-requires : tie.Need-new-requires
 new-requires c κs = search needs
@@ -38,8 +35,7 @@ pub tab-cursor-spec : {M : Type 1} → statement M
 tab-cursor-spec =
     tie.close
     (tie.spec
-    add-t
-    mul-t
+    next-stop-requires
     new-requires
     returns
     add-if2
