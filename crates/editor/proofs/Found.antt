@@ -73,6 +73,19 @@ module _ {A : Type 0} (number : A → ℕ) {C : ℕ → Type 0} {r : ℕ} (f : F
 unfoldable pub numbered : Bool → Bool → Bool → Bool → ℕ
 numbered size layout range last = if not size then 1 else if not layout then 2 else if not range then 3 else if last then 4 else 0
 
+-- calls without a serial to look at, and calls that look at lengths alone
+pub numbered-early : (a b c : Bool) → (if not a then 1 else if not b then 2 else if not c then 3 else 0) ≡ numbered a b c false
+unfolding numbered if_then_else_
+numbered-early false b c = refl
+numbered-early true false c = refl
+numbered-early true true false = refl
+numbered-early true true true = refl
+
+pub numbered-size : (a : Bool) → (if a then 0 else 1) ≡ numbered a true true false
+unfolding numbered if_then_else_
+numbered-size true = refl
+numbered-size false = refl
+
 -- a test that fails, with the number of its refusal
 pub data Fails (size layout range last : Bool) : ℕ → Type 0 where
   at-size : size ≡ false → Fails size layout range last 1

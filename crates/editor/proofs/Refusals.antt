@@ -4,7 +4,7 @@ use Prim.Native.Nat.{ℕ, _≤_}
 use mathlib.Core.Path.{_≡_, refl, sym, ap, _∙_, subst}
 use mathlib.Core.Bool.{Bool, true, false, not, _&&_, true≢false, not-eq-not}
 use mathlib.Core.List.{List, []}
-use mathlib.Core.Logic.{_↔_, _≢_, _⊎_, inl, inr, ⊎-elim}
+use mathlib.Core.Logic.{_↔_, _≢_, inl, inr, ⊎-elim}
 use native.Mathlib.Omega.{arith}
 use lib.ListN.{length}
 use lib.Dec.{leb, ltb, eqb}
@@ -15,7 +15,7 @@ use Rattle.grid.specs.Layout.{SIZE}
 use Rattle.grid.specs.Screen.{Screen, widthb, every, newState}
 use Rattle.grid.specs.Record.{serialOf, screenOf, readState, stateBytes, validb}
 use Rattle.grid.specs.Facts.{isByte, Valid}
-use Rattle.grid.proofs.Bools.{and-false}
+use Rattle.grid.proofs.Bools.{and-false, left-false, and-cases, fails}
 use Rattle.grid.proofs.Validity.{width-cases, cases-width, valid-facts, facts-valid}
 use Rattle.line.specs.Line.{MAX-LOGICAL}
 use Rattle.line.proofs.KeptLine.{line-fits}
@@ -34,20 +34,13 @@ use Rattle.editor.specs.Refusals.QueryRefused.{record-length as query-le
 use Rattle.editor.specs.Refusals.ShortText.{line as text-line, picture}
 use Rattle.editor.specs.Refusals.TextRefused.{record-length as text-length, output-length as text-output, layout as text-layout}
 use Rattle.editor.proofs.Found.Fails.{at-size, at-layout, at-range, at-last}
-use Rattle.editor.proofs.Found.{Found, answered, numbered, Fails, numbered-found, Passed, numbered-none}
+use Rattle.editor.proofs.Found.{Found, answered, numbered, numbered-early, numbered-size, Fails, numbered-found, Passed, numbered-none}
 use Rattle.editor.proofs.Answers.{text-fits, room-most, answer-fits}
 
 -- ---- tests and conditions
 
-and-not : (a b : Bool) → a && b ≡ false → (a ≡ false) ⊎ (b ≡ false)
-and-not true b e = inr e
-and-not false b e = inl refl
-
-left-false : (a b : Bool) → a ≡ false → a && b ≡ false
-left-false a b e = rw e
-
-not-valid : (l : List ℕ) → (¬ Valid l) ↔ (validb l ≡ false)
-not-valid l = (λ n. not-eq-not {b = false} .0 (λ v. n (valid-facts l v)), λ e v. true≢false (sym (facts-valid l v) ∙ e))
+pub not-valid : (l : List ℕ) → (¬ Valid l) ↔ (validb l ≡ false)
+not-valid l = fails (Valid l) (validb l) (valid-facts l) (facts-valid l)
 
 -- the refusals of `Outcome` are found by the tests
 late-is : (a b c d : Bool) →
@@ -59,21 +52,9 @@ late-is true true false d = refl
 late-is true true true true = refl
 late-is true true true false = refl
 
-early-is : (a b c : Bool) → (if not a then 1 else if not b then 2 else if not c then 3 else 0) ≡ numbered a b c false
-unfolding numbered if_then_else_
-early-is false b c = refl
-early-is true false c = refl
-early-is true true false = refl
-early-is true true true = refl
-
 early-none : (long ok : Bool) (l : List ℕ) → refusal long ok l ≡ 0 → Passed (eqb (length l) SIZE && long) (validb l) ok false
 unfolding refusal
-early-none long ok l e = numbered-none _ _ _ _ (sym (early-is (eqb (length l) SIZE && long) (validb l) ok) ∙ e)
-
-size-is : (a : Bool) → (if a then 0 else 1) ≡ numbered a true true false
-unfolding numbered if_then_else_
-size-is true = refl
-size-is false = refl
+early-none long ok l e = numbered-none _ _ _ _ (sym (numbered-early (eqb (length l) SIZE && long) (validb l) ok) ∙ e)
 
 -- ---- changing calls
 
@@ -152,7 +133,7 @@ module _ (c : Call) (l : List ℕ) where
 
   fails-change : {j : ℕ} → ChangeFails j → ChangeRefused c l j
   fails-change (at-size e) =
-      ⊎-elim (λ n. record-length (eqb-false _ _ n)) (λ n. output-length (tells c .short n)) (and-not (eqb (length l) SIZE) (roomy c) e)
+      ⊎-elim (λ n. record-length (eqb-false _ _ n)) (λ n. output-length (tells c .short n)) (and-cases (eqb (length l) SIZE) (roomy c) e)
   fails-change (at-layout e) = layout (not-valid l .1 e)
   fails-change (at-range e) = argument (tells c .outside e)
   fails-change (at-last e) = last-serial (eqb-true _ _ e)
@@ -191,7 +172,7 @@ module _ (w : ℕ) (l : List ℕ) where
   fails-new (at-last e) = absurd (true≢false (sym e))
 
   new-found : Found (NewRefused l) (if eqb (length l) SIZE then 0 else 1)
-  new-found = subst (Found (NewRefused l)) (sym (size-is (eqb (length l) SIZE))) (numbered-found _ _ _ _ (λ j. (new-fails, fails-new)))
+  new-found = subst (Found (NewRefused l)) (sym (numbered-size (eqb (length l) SIZE))) (numbered-found _ _ _ _ (λ j. (new-fails, fails-new)))
 
   pub creating-answers : CreatingAnswers w l
   unfolding creating unless
@@ -216,7 +197,7 @@ inside-outside s AskCursor e = absurd (true≢false e)
 inside-outside s AskAttr e = absurd (true≢false e)
 inside-outside s AskEditableRows e = absurd (true≢false e)
 inside-outside s (AskCell r c) e =
-    ⊎-elim (λ n. cell-row (leb-false _ _ n)) (λ n. cell-column (ltb-false _ _ n)) (and-not (leb r 24) (ltb c (s .head .width)) e)
+    ⊎-elim (λ n. cell-row (leb-false _ _ n)) (λ n. cell-column (ltb-false _ _ n)) (and-cases (leb r 24) (ltb c (s .head .width)) e)
 inside-outside s (AskContinues r) e = continues-row (leb-false _ _ e)
 
 module _ (q : Query) (l : List ℕ) where
@@ -230,7 +211,7 @@ module _ (q : Query) (l : List ℕ) where
 
   fails-query : {j : ℕ} → QueryFails j → QueryRefused q l j
   fails-query (at-size e) =
-      ⊎-elim (λ n. query-length (eqb-false _ _ n)) (λ n. absurd (true≢false n)) (and-not (eqb (length l) SIZE) true e)
+      ⊎-elim (λ n. query-length (eqb-false _ _ n)) (λ n. absurd (true≢false n)) (and-cases (eqb (length l) SIZE) true e)
   fails-query (at-layout e) = query-layout (not-valid l .1 e)
   fails-query (at-range e) = query-argument (inside-outside (screenOf l) q e)
   fails-query (at-last e) = absurd (true≢false (sym e))
@@ -238,7 +219,7 @@ module _ (q : Query) (l : List ℕ) where
   query-found : Found (QueryRefused q l) (refusal true (inside q (screenOf l)) l)
   unfolding refusal
   query-found =
-      subst (Found (QueryRefused q l)) (sym (early-is (eqb (length l) SIZE && true) (validb l) (inside q (screenOf l))))
+      subst (Found (QueryRefused q l)) (sym (numbered-early (eqb (length l) SIZE && true) (validb l) (inside q (screenOf l))))
       (numbered-found _ _ _ _ (λ j. (query-fails, fails-query)))
 
   pub asking-answers : every isByte l ≡ true → AskingAnswers q l
@@ -274,7 +255,7 @@ module _ (q : TextCall) (l out : List ℕ) where
 
   fails-text : {j : ℕ} → TextFails j → TextRefused q l out j
   fails-text (at-size e) =
-      ⊎-elim (λ n. text-length (eqb-false _ _ n)) (λ n. text-output (room-short out q n)) (and-not (eqb (length l) SIZE) (leb (room q) (length out)) e)
+      ⊎-elim (λ n. text-length (eqb-false _ _ n)) (λ n. text-output (room-short out q n)) (and-cases (eqb (length l) SIZE) (leb (room q) (length out)) e)
   fails-text (at-layout e) = text-layout (not-valid l .1 e)
   fails-text (at-range e) = absurd (true≢false e)
   fails-text (at-last e) = absurd (true≢false (sym e))
@@ -282,7 +263,7 @@ module _ (q : TextCall) (l out : List ℕ) where
   text-found : Found (TextRefused q l out) (refusal (leb (room q) (length out)) true l)
   unfolding refusal
   text-found =
-      subst (Found (TextRefused q l out)) (sym (early-is (eqb (length l) SIZE && leb (room q) (length out)) (validb l) true))
+      subst (Found (TextRefused q l out)) (sym (numbered-early (eqb (length l) SIZE && leb (room q) (length out)) (validb l) true))
       (numbered-found _ _ _ _ (λ j. (text-fails, fails-text)))
 
   pub texting-answers : TextingAnswers q l out

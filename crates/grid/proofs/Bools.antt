@@ -2,9 +2,9 @@
 -- Assumes nothing.
 use Prim.Native.Nat.{ℕ, zero, suc, _+_, _<_}
 use mathlib.Core.Path.{_≡_, refl, sym, ap, _∙_}
-use mathlib.Core.Bool.{Bool, true, false, _&&_, _||_, and-true, true≢false}
+use mathlib.Core.Bool.{Bool, true, false, _&&_, _||_, and-true, true≢false, not-eq-not}
 use mathlib.Core.List.{List, [], _∷_, _++_}
-use mathlib.Core.Logic.{_⊎_, inl, inr}
+use mathlib.Core.Logic.{_↔_, _⊎_, inl, inr}
 use native.Mathlib.Nat.{le-of-suc-le-suc, not-suc-le-zero}
 use native.Mathlib.Omega.{arith}
 use lib.Dec.{eqb}
@@ -27,6 +27,17 @@ and-both a b p q = rw p q
 pub and-false : (a b : Bool) → b ≡ false → a && b ≡ false
 and-false true b e = e
 and-false false b e = refl
+
+pub left-false : (a b : Bool) → a ≡ false → a && b ≡ false
+left-false a b e = rw e
+
+pub and-cases : (a b : Bool) → a && b ≡ false → (a ≡ false) ⊎ (b ≡ false)
+and-cases true b e = inr e
+and-cases false b e = inl refl
+
+-- what a test says is not so exactly when the test fails
+pub fails : (A : Type 0) (b : Bool) → (b ≡ true → A) → (A → b ≡ true) → (¬ A) ↔ (b ≡ false)
+fails A b f g = (λ n. not-eq-not {b = false} .0 (λ e. n (f e)), λ e a. true≢false (sym (g a) ∙ e))
 
 -- takes a conjunction of tests apart, and puts it together
 pub ruleset tests = (and-left, and-right, and-both, eqb-true, eq-eqb)

@@ -2,9 +2,9 @@
 -- Assumes nothing.
 use Prim.Native.Nat.{ℕ, _+_, _-_, _≤_, _<_}
 use mathlib.Core.Path.{_≡_, refl, sym, ap, _∙_, subst}
-use mathlib.Core.Bool.{Bool, true, false, not, _&&_, true≢false, not-eq-not}
+use mathlib.Core.Bool.{Bool, true, false, not, _&&_, true≢false}
 use mathlib.Core.List.{List}
-use mathlib.Core.Logic.{_↔_, _≢_, _⊎_, inl, inr, ⊎-elim}
+use mathlib.Core.Logic.{_≢_, ⊎-elim}
 use native.Mathlib.Omega.{arith}
 use lib.Dec.{leb, eqb}
 use lib.ListN.{length, getD, drop}
@@ -15,11 +15,12 @@ use Rattle.grid.specs.Answer.{refused, Written, unless, wrote}
 use Rattle.grid.specs.Layout.{SIZE, WIDTH}
 use Rattle.grid.specs.Record.{fourAt, headOf, serialOf, touchedOf, readState, validb}
 use Rattle.grid.specs.Facts.{Valid}
-use Rattle.grid.proofs.Bools.{and-left, and-right, and-both, and-false, cases, either}
-use Rattle.grid.proofs.Validity.{valid-facts, facts-valid}
+use Rattle.grid.proofs.Bools.{and-left, and-right, and-both, and-false, left-false, and-cases, fails, cases, either}
+use Rattle.grid.proofs.Validity.{valid-facts}
 use Rattle.editor.specs.Outcome.{refusal}
 use Rattle.editor.specs.Refusals.{Refuses}
-use Rattle.editor.proofs.Found.{Found, Within, answered, numbered, Fails, numbered-found, numbered-none}
+use Rattle.editor.proofs.Found.{Found, Within, answered, numbered-early, numbered-size, Fails, numbered-found, numbered-none}
+use Rattle.editor.proofs.Refusals.{not-valid}
 use Rattle.editor.proofs.Found.Fails.{at-size, at-layout, at-range, at-last}
 use Rattle.mirror.specs.declared.arrive.Arrived.the-variants.{Refused, Noted, Applied}
 use Rattle.mirror.specs.Layout.{KIND, REPORT-SERIAL, MASK, HEAD, LONGEST, STEP, ALL-ROWS, MIRROR-SIZE, RECORD}
@@ -34,26 +35,7 @@ use Rattle.mirror.specs.Refusals.ArrivalRefused.{mirror-length, mirror-l
 use Rattle.mirror.proofs.Conditions.{step-at, report-facts, facts-report, mirror-facts, facts-mirror}
 use Rattle.mirror.proofs.Making.{length-reported}
 
--- ---- tests and conditions
-
-and-not : (a b : Bool) → a && b ≡ false → (a ≡ false) ⊎ (b ≡ false)
-and-not true b e = inr e
-and-not false b e = inl refl
-
-left-false : (a b : Bool) → a ≡ false → a && b ≡ false
-left-false a b e = rw e
-
--- what a test says is not so exactly when the test fails
-fails : (A : Type 0) (b : Bool) → (b ≡ true → A) → (A → b ≡ true) → (¬ A) ↔ (b ≡ false)
-fails A b f g = (λ n. not-eq-not {b = false} .0 (λ e. n (f e)), λ e a. true≢false (sym (g a) ∙ e))
-
 -- ---- report calls
-
-early-is : (a b : Bool) → (if not a then 1 else if not b then 2 else if not true then 3 else 0) ≡ numbered a b true false
-unfolding numbered if_then_else_
-early-is false b = refl
-early-is true false = refl
-early-is true true = refl
 
 module _ (kind : Kind) (l out : List ℕ) where
   abbrev ReportFails : ℕ → Type 0
@@ -62,24 +44,24 @@ module _ (kind : Kind) (l out : List ℕ) where
   report-fails : {j : ℕ} → ReportRefused l out j → ReportFails j
   report-fails (record-length n) = at-size (left-false (eqb (length l) SIZE) _ (ne-eqb _ _ n))
   report-fails (output-length h) = at-size (and-false (eqb (length l) SIZE) _ (lt-leb _ _ h))
-  report-fails (layout n) = at-layout (fails (Valid l) (validb l) (valid-facts l) (facts-valid l) .0 n)
+  report-fails (layout n) = at-layout (not-valid l .0 n)
 
   fails-report : {j : ℕ} → ReportFails j → ReportRefused l out j
   fails-report (at-size e) =
-      ⊎-elim (λ n. record-length (eqb-false _ _ n)) (λ n. output-length (leb-false _ _ n)) (and-not (eqb (length l) SIZE) (leb LONGEST (length out)) e)
-  fails-report (at-layout e) = layout (fails (Valid l) (validb l) (valid-facts l) (facts-valid l) .1 e)
+      ⊎-elim (λ n. record-length (eqb-false _ _ n)) (λ n. output-length (leb-false _ _ n)) (and-cases (eqb (length l) SIZE) (leb LONGEST (length out)) e)
+  fails-report (at-layout e) = layout (not-valid l .1 e)
   fails-report (at-range e) = absurd (true≢false e)
   fails-report (at-last e) = absurd (true≢false (sym e))
 
   report-found : Found (ReportRefused l out) (refusal (leb LONGEST (length out)) true l)
   unfolding refusal
   report-found =
-      subst (Found (ReportRefused l out)) (sym (early-is (eqb (length l) SIZE && leb LONGEST (length out)) (validb l)))
+      subst (Found (ReportRefused l out)) (sym (numbered-early (eqb (length l) SIZE && leb LONGEST (length out)) (validb l) true))
       (numbered-found _ _ _ _ (λ j. (report-fails, fails-report)))
 
   report-valid : refusal (leb LONGEST (length out)) true l ≡ 0 → validb l ≡ true
   unfolding refusal
-  report-valid e = numbered-none _ _ _ _ (sym (early-is (eqb (length l) SIZE && leb LONGEST (length out)) (validb l)) ∙ e) .layout
+  report-valid e = numbered-none _ _ _ _ (sym (numbered-early (eqb (length l) SIZE && leb LONGEST (length out)) (validb l) true) ∙ e) .layout
 
 mask-is : (kind : Kind) (l : List ℕ) → Valid l → MaskIs kind l (maskOf kind (touchedOf l))
 unfolding maskOf
@@ -99,11 +81,6 @@ reporting-answers kind l out =
 
 -- ---- new mirror
 
-size-is : (a : Bool) → (if a then 0 else 1) ≡ numbered a true true false
-unfolding numbered if_then_else_
-size-is true = refl
-size-is false = refl
-
 module _ (w : ℕ) (l : List ℕ) where
   new-fails : {j : ℕ} → NewMirrorRefused l j → Fails (eqb (length l) MIRROR-SIZE) true true false j
   new-fails (new-length n) = at-size (ne-eqb _ _ n)
@@ -116,7 +93,7 @@ module _ (w : ℕ) (l : List ℕ) where
 
   new-found : Found (NewMirrorRefused l) (if eqb (length l) MIRROR-SIZE then 0 else 1)
   new-found =
-      subst (Found (NewMirrorRefused l)) (sym (size-is (eqb (length l) MIRROR-SIZE))) (numbered-found _ _ _ _ (λ j. (new-fails, fails-new)))
+      subst (Found (NewMirrorRefused l)) (sym (numbered-size (eqb (length l) MIRROR-SIZE))) (numbered-found _ _ _ _ (λ j. (new-fails, fails-new)))
 
   pub creating-mirror-answers : CreatingMirrorAnswers w l
   unfolding creatingMirror unless
