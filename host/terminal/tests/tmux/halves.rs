@@ -149,11 +149,16 @@ fn resized() {
 
 #[test]
 fn leaving_restores_the_terminal() {
-    let pane = Pane::start("leaving", COLS, ROWS, "sh");
-    let modes = |after: &str| {
-        pane.write(&format!("echo {after} $(stty -g)\n"));
-        let shown = pane.wait(after, |shown| shown.lines.iter().any(|line| line.starts_with(after)));
-        shown.lines.iter().find_map(|line| line.strip_prefix(after).map(str::to_string)).unwrap()
+    let pane = Pane::start("leaving", COLS, ROWS, "PS1='ready> ' sh");
+    pane.wait_for("ready>");
+    let modes = |when: &str| {
+        pane.write(&format!("echo {when}-$(stty -g)\n"));
+        // Not the line that was typed.
+        let printed = |shown: &Shown| {
+            let after = |line: &String| line.split_once(&format!("{when}-")).map(|(_, modes)| modes.to_string());
+            shown.lines.iter().filter_map(after).find(|modes| !modes.starts_with('$'))
+        };
+        printed(&pane.wait(when, |shown| printed(shown).is_some())).unwrap()
     };
     let before = modes("before");
     pane.write(&format!("{} {GOOD_LINE}\n", env!("CARGO_BIN_EXE_screens")));
