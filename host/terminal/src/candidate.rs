@@ -134,7 +134,7 @@ pub fn in_terminal(to: SocketAddr, width: u32, faults: Faults, seed: u64) -> io:
 
 /// Presses the keys one after the other. It holds if the invigilator tells at the end that it shows the last screen.
 pub fn with_keys(to: SocketAddr, width: u32, faults: Faults, seed: u64, keys: &[Key]) -> io::Result<bool> {
-    println!("candidate: to {to}, {} keys, {faults:?}, seed {seed}", keys.len());
+    println!("candidate: to {to}, {} keys, {faults}, seed {seed}", keys.len());
     let mut candidate = Candidate::new(to, width, faults, seed)?;
     let mut paused = 0;
     for &key in keys {

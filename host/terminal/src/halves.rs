@@ -106,9 +106,8 @@ impl Halves {
 
     fn line(&self) -> String {
         let line = &self.sender.line;
-        let Faults { loss, repeat, reorder } = line.faults;
         let cut = if line.cut { "CUT, " } else { "" };
-        format!("line: {cut}loss {loss}%, repeat {repeat}%, reorder {reorder}%; lost {}, held back {}", line.lost, line.held())
+        format!("line: {cut}{}; lost {}, held back {}", line.faults, line.lost, line.held())
     }
 }
 

@@ -1,5 +1,6 @@
 //! A bad line: it loses, repeats and reorders what is sent over it. The seed decides what happens.
 use oorandom::Rand32;
+use std::fmt;
 
 /// How often each happens in a hundred datagrams.
 #[derive(Clone, Copy, PartialEq, Eq, Default, Debug)]
@@ -12,6 +13,12 @@ pub struct Faults {
 impl Faults {
     /// The line of the recorded session and of the long test.
     pub const BAD: Faults = Faults { loss: 30, repeat: 30, reorder: 100 };
+}
+
+impl fmt::Display for Faults {
+    fn fmt(&self, f: &mut fmt::Formatter) -> fmt::Result {
+        write!(f, "loss {}%, repeat {}%, reorder {}%", self.loss, self.repeat, self.reorder)
+    }
 }
 
 /// Held back are at most so many; any of them may come next.

@@ -15,7 +15,7 @@ pub fn recorded() -> Vec<Key> {
 
 /// Plays the keys, prints what is on both screens, and answers whether all was as proved.
 pub fn play(keys: &[Key], width: u32, faults: Faults, seed: u64) -> bool {
-    println!("{} recorded keys, {faults:?}, seed {seed}", keys.len());
+    println!("{} recorded keys, {faults}, seed {seed}", keys.len());
     let now = Instant::now();
     let (mut halves, mut witness) = (Halves::new(width, faults, seed, now), Witness::new(width, keys));
     let mut verdict = Verdict::default();
