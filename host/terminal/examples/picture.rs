@@ -4,7 +4,6 @@ use std::time::Instant;
 use terminal::canvas::{differing, Canvas, Size};
 use terminal::halves::{Halves, FAULTS};
 use terminal::played::recorded;
-use terminal::terminal::Input;
 
 /// One that leaves the mirror behind at the end.
 const SEED: u64 = 1;
@@ -23,8 +22,10 @@ fn main() {
     let now = Instant::now();
     let mut halves = Halves::new(40, FAULTS, SEED, now);
     for key in recorded() {
-        halves.input(Input::Key(key), now);
-        halves.tick(now);
+        let pressed = halves.press(key, now);
+        for datagram in pressed.into_iter().chain(halves.tick(now)) {
+            halves.follower.receive(&datagram, now);
+        }
     }
     print!("{}", svg(&halves.canvas(SIZE, now)));
 }

@@ -6,7 +6,7 @@ use crate::keys::Key;
 use crate::line::{Faults, Line};
 use crate::sender::Sender;
 use crate::terminal::{Input, Terminal};
-use futonrobin::{Report, Shown};
+use futonrobin::Shown;
 use std::io;
 use std::time::{Duration, Instant};
 
@@ -28,44 +28,40 @@ pub struct Halves {
 impl Halves {
     pub fn new(width: u32, faults: Faults, seed: u64, now: Instant) -> Self {
         let (desk, sender) = (Desk::new(width), Sender::new(width, Line::new(faults, seed), now));
-        let mut halves = Self { desk, sender, follower: Follower::default() };
-        halves.send(&[halves.desk.screen.report_full()], now);
-        halves
+        Self { desk, sender, follower: Follower::default() }
     }
 
-    pub fn send(&mut self, reports: &[Report], now: Instant) {
-        for report in reports {
-            let arriving = self.sender.send(report, now);
-            self.arrive(arriving, now);
-        }
+    /// Sends a full report; what arrives now.
+    pub fn full(&mut self, now: Instant) -> Vec<Vec<u8>> {
+        self.sender.send(&self.desk.screen.report_full(), now)
     }
 
-    fn arrive(&mut self, datagrams: impl IntoIterator<Item = Vec<u8>>, now: Instant) {
-        for datagram in datagrams {
-            self.follower.receive(&datagram, now);
-        }
-    }
-
-    /// Time passes: the line lets go of what it held back, and a full report may be due.
-    pub fn tick(&mut self, now: Instant) {
+    /// Time passes: the line lets go of what it held back, and a full report may be due; what arrives now.
+    pub fn tick(&mut self, now: Instant) -> Vec<Vec<u8>> {
         let released = self.sender.release();
-        self.arrive(released, now);
-        let full = self.sender.full_if_due(&self.desk.screen, now);
-        self.arrive(full, now);
+        released.into_iter().chain(self.sender.full_if_due(&self.desk.screen, now)).collect()
     }
 
-    pub fn input(&mut self, input: Input, now: Instant) {
+    /// A key is pressed; what arrives now.
+    pub fn press(&mut self, key: Key, now: Instant) -> Vec<Vec<u8>> {
+        match self.desk.press(key) {
+            Ok(reports) => reports.iter().flat_map(|report| self.sender.send(report, now)).collect(),
+            Err(refusal) => {
+                self.desk.submitted.push(format!("({refusal})"));
+                Vec::new()
+            }
+        }
+    }
+
+    /// The line is changed.
+    fn turn(&mut self, input: Input) {
         let line = &mut self.sender.line;
         match input {
-            Input::Key(key) => match self.desk.press(key) {
-                Ok(reports) => self.send(&reports, now),
-                Err(refusal) => self.desk.submitted.push(format!("({refusal})")),
-            },
             Input::Loss => line.faults.loss = next_percentage(line.faults.loss),
             Input::Repeat => line.faults.repeat = next_percentage(line.faults.repeat),
             Input::Reorder => line.faults.reorder = next_percentage(line.faults.reorder),
             Input::Cut => line.cut = !line.cut,
-            Input::Leave | Input::Follow | Input::Redraw => {}
+            Input::Key(_) | Input::Leave | Input::Follow | Input::Redraw => {}
         }
     }
 
@@ -130,16 +126,21 @@ pub fn run(width: Option<u32>, faults: Option<Faults>, seed: u64) -> io::Result<
     let size = terminal.size()?;
     let widest = if size.cols > 160 { 80 } else { 40 };
     let mut halves = Halves::new(width.unwrap_or(widest), faults.unwrap_or(FAULTS), seed, Instant::now());
+    let mut arriving = halves.full(Instant::now());
     loop {
+        arriving.extend(halves.tick(Instant::now()));
+        for datagram in arriving.drain(..) {
+            halves.follower.receive(&datagram, Instant::now());
+        }
         let size = terminal.size()?;
         terminal.show(halves.canvas(size, Instant::now()))?;
         match terminal.next(TICK)? {
             Some(Input::Leave) => return Ok(()),
             // Nobody types on a screen that is not shown.
             Some(Input::Key(key)) if key != Key::Width && !halves.needed().fits(size) => {}
-            Some(input) => halves.input(input, Instant::now()),
+            Some(Input::Key(key)) => arriving = halves.press(key, Instant::now()),
+            Some(input) => halves.turn(input),
             None => {}
         }
-        halves.tick(Instant::now());
     }
 }

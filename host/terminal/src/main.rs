@@ -31,7 +31,10 @@ fn run(Arguments { place, width, faults, seed, keys }: Arguments) -> Result<bool
             Ok(true)
         }
         (Place::Both, _) if terminal => halves::run(width, faults, seed).map(|()| true).map_err(|problem| problem.to_string()),
-        (Place::Both, _) => Ok(played::play(&played::recorded(), columns, faults.unwrap_or(Faults::BAD), seed)),
+        (Place::Both, _) => {
+            let faults = faults.unwrap_or(Faults::BAD);
+            played::play(&played::recorded(), columns, faults, seed, &mut io::stdout().lock()).map_err(|problem| problem.to_string())
+        }
         (Place::To(to), Some(keys)) => candidate::with_keys(to, columns, good, seed, &keys).map_err(|problem| problem.to_string()),
         (Place::Listen(listen), Some(keys)) => invigilator::with_keys(listen, &keys).map_err(|problem| cannot_listen(listen, problem)),
         _ if !terminal => Err("there is no terminal to type on; without one, --keys FILE has the keys".into()),

@@ -1,11 +1,12 @@
 //! Recorded keys over a bad line, without a terminal: both screens, and the verdict.
 use crate::canvas::{Canvas, Size};
+use crate::follower::{Follower, Taken};
 use crate::halves::Halves;
 use crate::keys::{self, Key};
 use crate::line::Faults;
-use crate::terminal::Input;
 use crate::witness::Witness;
 use futonrobin::{KeyTable, Shown};
+use std::io::{self, Write};
 use std::time::Instant;
 
 /// What a candidate typed.
@@ -14,62 +15,77 @@ pub fn recorded() -> Vec<Key> {
 }
 
 /// Plays the keys, prints what is on both screens, and answers whether all was as proved.
-pub fn play(keys: &[Key], width: u32, faults: Faults, seed: u64) -> bool {
-    println!("{} recorded keys, {faults}, seed {seed}", keys.len());
+pub fn play(keys: &[Key], width: u32, faults: Faults, seed: u64, out: &mut impl Write) -> io::Result<bool> {
+    writeln!(out, "{} recorded keys, {faults}, seed {seed}", keys.len())?;
     let now = Instant::now();
-    let (mut halves, mut witness) = (Halves::new(width, faults, seed, now), Witness::new(width, keys));
-    let mut verdict = Verdict::default();
+    let mut halves = Halves::new(width, faults, seed, now);
+    let mut verdict = Verdict { witness: Witness::new(width, keys), level: 0, behind: 0, wrong: Vec::new() };
     for &key in keys {
-        halves.input(Input::Key(key), now);
-        verdict.look(&halves, &mut witness);
-        halves.tick(now);
-        verdict.look(&halves, &mut witness);
+        let pressed = halves.press(key, now);
+        for datagram in pressed.into_iter().chain(halves.tick(now)) {
+            verdict.arrives(&mut halves.follower, &datagram, now);
+        }
     }
     // The line gets good again, and a last full report arrives.
     halves.sender.line.faults = Faults::default();
-    halves.send(&[halves.desk.screen.report_full()], now);
-    verdict.look(&halves, &mut witness);
-    let mirror = halves.follower.mirror().expect("a full report has arrived");
-    let ended = mirror.is_level() && mirror.same_as(&halves.desk.screen);
-
-    print_screen("CANDIDATE", &halves.desk.screen);
-    print_screen("INVIGILATOR", mirror);
-    halves.desk.submitted.iter().enumerate().for_each(|(at, line)| println!("submitted {}: {line}", at + 1));
-    let (sender, shows) = (&halves.sender, halves.follower.shows());
-    println!("{} datagrams arrived, {} were lost; m {}, n {}", halves.follower.arrived, sender.line.lost, shows.m, shows.n);
-    let Verdict { level, behind, wrong } = verdict;
-    println!("looked at the mirror {} times: {level} times level, {behind} times behind, {wrong} times wrong", level + behind + wrong);
-    let held = ended && wrong == 0 && halves.follower.garbage == 0;
-    println!("{}", if held { "AS PROVED: both show the same screen, and no arrival showed another" } else { "NOT AS PROVED" });
-    held
+    for datagram in halves.full(now) {
+        verdict.arrives(&mut halves.follower, &datagram, now);
+    }
+    verdict.print(&halves, out)
 }
 
-#[derive(Default)]
 struct Verdict {
+    witness: Witness,
     level: u64,
     behind: u64,
-    wrong: u64,
+    wrong: Vec<String>,
 }
 
 impl Verdict {
-    fn look(&mut self, halves: &Halves, witness: &mut Witness) {
-        let Some(mirror) = halves.follower.mirror() else { return };
-        match witness.check(mirror) {
+    /// A datagram arrives, and the mirror is looked at.
+    fn arrives(&mut self, follower: &mut Follower, datagram: &[u8], now: Instant) {
+        if follower.receive(datagram, now) != Taken::Arrived {
+            self.wrong.push("what the candidate sent was not taken".into());
+        }
+        let Some(mirror) = follower.mirror() else { return };
+        match self.witness.check(mirror) {
             Ok(()) if mirror.is_level() => self.level += 1,
             Ok(()) => self.behind += 1,
-            Err(difference) => {
-                self.wrong += 1;
-                println!("WRONG: {difference}");
-            }
+            Err(difference) => self.wrong.push(difference),
         }
+    }
+
+    fn print(&self, halves: &Halves, out: &mut impl Write) -> io::Result<bool> {
+        let screen = &halves.desk.screen;
+        print_screen("CANDIDATE", screen, out)?;
+        let mirror = halves.follower.mirror();
+        if let Some(mirror) = mirror {
+            print_screen("INVIGILATOR", mirror, out)?;
+        }
+        for (at, line) in halves.desk.submitted.iter().enumerate() {
+            writeln!(out, "submitted {}: {line}", at + 1)?;
+        }
+        for difference in &self.wrong {
+            writeln!(out, "WRONG: {difference}")?;
+        }
+        let (shows, lost, arrived) = (halves.follower.shows(), halves.sender.line.lost, halves.follower.arrived);
+        writeln!(out, "{arrived} datagrams arrived, {lost} were lost; m {}, n {}", shows.m, shows.n)?;
+        writeln!(
+            out,
+            "the mirror after each arrival: {} times level, {} times behind, {} times wrong",
+            self.level,
+            self.behind,
+            self.wrong.len()
+        )?;
+        let held = self.wrong.is_empty() && mirror.is_some_and(|mirror| mirror.is_level() && mirror.same_as(screen));
+        writeln!(out, "{}", if held { "AS PROVED: both show the same screen, and no arrival showed another" } else { "NOT AS PROVED" })?;
+        Ok(held)
     }
 }
 
-fn print_screen(title: &str, shown: &impl Shown) {
+fn print_screen(title: &str, shown: &impl Shown, out: &mut impl Write) -> io::Result<()> {
     let mut canvas = Canvas::new(Size { cols: shown.width() as usize, rows: 25 });
     canvas.screen(0, 0, shown, &KeyTable::standard());
-    println!("{title}");
-    for row in 0..25 {
-        println!("│{}│", canvas.row(row).iter().map(|spot| spot.ch).collect::<String>());
-    }
+    writeln!(out, "{title}")?;
+    (0..25).try_for_each(|row| writeln!(out, "│{}│", canvas.row(row).iter().map(|spot| spot.ch).collect::<String>()))
 }

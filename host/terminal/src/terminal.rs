@@ -8,8 +8,12 @@ use crossterm::event::{KeyboardEnhancementFlags, PopKeyboardEnhancementFlags, Pu
 use crossterm::style::{Color, Print, ResetColor, SetBackgroundColor, SetForegroundColor};
 use crossterm::terminal::{self, Clear, ClearType, EnterAlternateScreen, LeaveAlternateScreen};
 use crossterm::{execute, queue};
+use signal_hook::consts::{SIGHUP, SIGINT, SIGTERM};
+use signal_hook::flag;
 use std::io::{self, BufWriter, Stdout, Write};
 use std::panic;
+use std::sync::atomic::{AtomicBool, Ordering};
+use std::sync::Arc;
 use std::time::Duration;
 
 #[derive(Clone, Copy, PartialEq, Eq, Debug)]
@@ -26,10 +30,11 @@ pub enum Input {
     Redraw,
 }
 
-/// While it lives the terminal is ours; what it was before comes back in any case, a panic included.
+/// While it lives the terminal is ours; what it was before comes back in any case, a panic and a request to end included.
 pub struct Terminal {
     out: BufWriter<Stdout>,
     shown: Option<Canvas>,
+    ended: Arc<AtomicBool>,
 }
 
 impl Terminal {
@@ -39,8 +44,12 @@ impl Terminal {
             restore();
             told(why);
         }));
+        let ended = Arc::new(AtomicBool::new(false));
+        for signal in [SIGTERM, SIGHUP, SIGINT] {
+            flag::register(signal, ended.clone())?;
+        }
         terminal::enable_raw_mode()?;
-        let mut terminal = Self { out: BufWriter::new(io::stdout()), shown: None };
+        let mut terminal = Self { out: BufWriter::new(io::stdout()), shown: None, ended };
         // With these flags a terminal that knows them tells Ctrl-Enter from Enter; the others ignore them.
         let flags = PushKeyboardEnhancementFlags(KeyboardEnhancementFlags::DISAMBIGUATE_ESCAPE_CODES);
         execute!(terminal.out, EnterAlternateScreen, flags, Hide)?;
@@ -73,9 +82,13 @@ impl Terminal {
         self.out.flush()
     }
 
-    /// What is pressed within this time.
+    /// What is pressed within this time; leaving, if the program is asked to end.
     pub fn next(&mut self, wait: Duration) -> io::Result<Option<Input>> {
-        if !event::poll(wait)? {
+        let something = event::poll(wait)?;
+        if self.ended.load(Ordering::Relaxed) {
+            return Ok(Some(Input::Leave));
+        }
+        if !something {
             return Ok(None);
         }
         Ok(match event::read()? {

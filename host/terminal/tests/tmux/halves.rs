@@ -1,5 +1,6 @@
 //! The candidate's screen and the invigilator's mirror in one terminal.
 use crate::pane::{Pane, Shown};
+use std::process::Command;
 
 const COLS: usize = 161;
 const ROWS: usize = 36;
@@ -147,25 +148,37 @@ fn resized() {
     assert_eq!(wait_for_level(&pane)[0], "STAYS");
 }
 
+/// What `stty -g` prints in a shell.
+fn modes(shell: &Pane, when: &str) -> String {
+    shell.write(&format!("echo {when}-$(stty -g)\n"));
+    // Not the line that was typed.
+    let printed = |shown: &Shown| {
+        let after = |line: &String| line.split_once(&format!("{when}-")).map(|(_, modes)| modes.to_string());
+        shown.lines.iter().filter_map(after).find(|modes| !modes.starts_with('$'))
+    };
+    printed(&shell.wait(when, |shown| printed(shown).is_some())).unwrap()
+}
+
+/// Starts the program from a shell, ends it in some way, and looks whether the terminal is as it was.
+fn restored_after(name: &str, end: impl FnOnce(&Pane, &str)) {
+    let shell = Pane::start(name, COLS, ROWS, "PS1='ready> ' sh");
+    shell.wait_for("ready>");
+    let before = modes(&shell, "before");
+    let file = format!("{}/pid-{}-{name}", env!("CARGO_TARGET_TMPDIR"), std::process::id());
+    shell.write(&format!("sh -c 'echo $$ > {file}; exec {} {GOOD_LINE}'\n", env!("CARGO_BIN_EXE_screens")));
+    shell.wait_for("1LIST");
+    end(&shell, std::fs::read_to_string(&file).unwrap().trim());
+    std::fs::remove_file(file).unwrap();
+    shell.wait("the shell again", |shown| shown.has("before") && !shown.has("1LIST"));
+    assert_eq!(modes(&shell, "after"), before);
+}
+
 #[test]
 fn leaving_restores_the_terminal() {
-    let pane = Pane::start("leaving", COLS, ROWS, "PS1='ready> ' sh");
-    pane.wait_for("ready>");
-    let modes = |when: &str| {
-        pane.write(&format!("echo {when}-$(stty -g)\n"));
-        // Not the line that was typed.
-        let printed = |shown: &Shown| {
-            let after = |line: &String| line.split_once(&format!("{when}-")).map(|(_, modes)| modes.to_string());
-            shown.lines.iter().filter_map(after).find(|modes| !modes.starts_with('$'))
-        };
-        printed(&pane.wait(when, |shown| printed(shown).is_some())).unwrap()
-    };
-    let before = modes("before");
-    pane.write(&format!("{} {GOOD_LINE}\n", env!("CARGO_BIN_EXE_screens")));
-    pane.wait_for("1LIST");
-    pane.press("C-q");
-    pane.wait("the shell again", |shown| shown.has("before") && !shown.has("1LIST"));
-    assert_eq!(modes("after"), before);
-    pane.write("echo cursor $((6 * 7))\n");
-    pane.wait_for("cursor 42");
+    restored_after("leaving", |pane, _| pane.press("C-q"));
+}
+
+#[test]
+fn a_request_to_end_restores_the_terminal() {
+    restored_after("asked", |_, pid| assert!(Command::new("kill").args(["-TERM", pid]).status().unwrap().success()));
 }
