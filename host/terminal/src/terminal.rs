@@ -8,7 +8,7 @@ use crossterm::event::{KeyboardEnhancementFlags, PopKeyboardEnhancementFlags, Pu
 use crossterm::style::{Color, Print, ResetColor, SetBackgroundColor, SetForegroundColor};
 use crossterm::terminal::{self, Clear, ClearType, EnterAlternateScreen, LeaveAlternateScreen};
 use crossterm::{execute, queue};
-use signal_hook::consts::{SIGHUP, SIGINT, SIGTERM};
+use signal_hook::consts::{SIGINT, SIGTERM};
 use signal_hook::flag;
 use std::io::{self, BufWriter, Stdout, Write};
 use std::panic;
@@ -45,7 +45,8 @@ impl Terminal {
             told(why);
         }));
         let ended = Arc::new(AtomicBool::new(false));
-        for signal in [SIGTERM, SIGHUP, SIGINT] {
+        // A terminal that is gone needs nothing back: SIGHUP ends the program as it is.
+        for signal in [SIGTERM, SIGINT] {
             flag::register(signal, ended.clone())?;
         }
         terminal::enable_raw_mode()?;

@@ -1,6 +1,8 @@
 //! The candidate's screen and the invigilator's mirror in one terminal.
-use crate::pane::{Pane, Shown};
+use crate::pane::{Pane, Shown, DEADLINE};
 use std::process::Command;
+use std::thread::sleep;
+use std::time::{Duration, Instant};
 
 const COLS: usize = 161;
 const ROWS: usize = 36;
@@ -20,10 +22,11 @@ fn invigilator(shown: &Shown) -> Vec<String> {
     shown.rows(1, 81, 80)
 }
 
-/// Waits until the mirror is level and its half shows what the candidate's does.
-fn wait_for_level(pane: &Pane) -> Vec<String> {
-    let shown = pane.wait("both halves alike, and LEVEL", |shown| shown.has("LEVEL") && candidate(shown) == invigilator(shown));
-    candidate(&shown)
+/// Waits until this stands at the front of a row of the candidate's half, the mirror is level, and its half shows the same.
+fn wait_for_both(pane: &Pane, row: usize, text: &str) {
+    pane.wait(&format!("both halves alike, LEVEL, and in row {row} {text}"), |shown| {
+        shown.has("LEVEL") && candidate(shown)[row].starts_with(text) && candidate(shown) == invigilator(shown)
+    });
 }
 
 #[test]
@@ -55,8 +58,7 @@ fn typing_editing_wrapping_submitting() {
     pane.wait_for_cursor(3, 26);
     pane.press("Enter");
     pane.wait_for(&format!("submitted 2: {}", long.trim_end()));
-    let rows = wait_for_level(&pane);
-    assert_eq!(rows[0], "10 OUR wRD 7, BED 12 FREE");
+    wait_for_both(&pane, 0, "10 OUR wRD 7, BED 12 FREE");
 }
 
 #[test]
@@ -85,16 +87,16 @@ fn the_other_keys() {
     // Code page 437, a colour, the row under the key strip.
     pane.press("C-a");
     pane.write("Süd ½ ß");
-    pane.wait("typed characters", |shown| candidate(shown)[3].starts_with("Süd ½ ß"));
+    wait_for_both(&pane, 3, "Süd ½ ß");
     assert!(pane.coloured().contains("\u{1b}[38;5;11m"), "bright yellow is shown: {:?}", pane.coloured());
     pane.press("C-k");
     pane.wait("no key strip", |shown| !shown.has("1LIST"));
     pane.press("C-k");
     pane.wait_for("1LIST");
-    wait_for_level(&pane);
     pane.press("C-Home");
-    pane.wait("a clear screen", |shown| candidate(shown)[..24].iter().all(|row| row.is_empty()));
-    wait_for_level(&pane);
+    pane.wait("a clear screen on both halves", |shown| {
+        candidate(shown)[..24].iter().all(|row| row.is_empty()) && candidate(shown) == invigilator(shown)
+    });
 }
 
 #[test]
@@ -110,7 +112,7 @@ fn the_other_width() {
 fn the_line_cut_and_joined() {
     let pane = start("cut", GOOD_LINE);
     pane.write("BEFORE");
-    wait_for_level(&pane);
+    wait_for_both(&pane, 0, "BEFORE");
     pane.press("C-x");
     pane.wait_for("line: CUT");
     pane.write(" AND AFTER");
@@ -119,7 +121,7 @@ fn the_line_cut_and_joined() {
     pane.wait_for("SILENT for");
     pane.press("C-x");
     pane.wait("the line joined", |shown| !shown.has("CUT"));
-    assert_eq!(wait_for_level(&pane)[0], "BEFORE AND AFTER");
+    wait_for_both(&pane, 0, "BEFORE AND AFTER");
 }
 
 #[test]
@@ -132,20 +134,27 @@ fn faults_that_are_changed_while_it_runs() {
     pane.wait_for("submitted 1: bad line");
     pane.press("C-l C-l C-l C-r C-r C-r C-o");
     pane.wait_for("loss 0%, repeat 0%, reorder 0%");
-    assert!(wait_for_level(&pane)[0].starts_with("bad line, good keys; bad line"));
+    wait_for_both(&pane, 0, "bad line, good keys; bad line");
 }
 
 #[test]
 fn resized() {
     let pane = start("resized", GOOD_LINE);
     pane.write("STAYS");
-    wait_for_level(&pane);
+    wait_for_both(&pane, 0, "STAYS");
     pane.resize(100, 20);
     pane.wait_for("The terminal is too small");
-    pane.write("not taken");
     pane.resize(COLS, ROWS);
-    pane.wait_for("STAYS");
-    assert_eq!(wait_for_level(&pane)[0], "STAYS");
+    wait_for_both(&pane, 0, "STAYS");
+    // While it is too small nothing is typed. The other width is taken, and shows that the keys before it were.
+    pane.resize(100, 20);
+    pane.wait_for("161 and 30 are needed");
+    pane.write("NOT TAKEN");
+    pane.press("C-w");
+    pane.wait_for("81 and 30 are needed");
+    pane.resize(COLS, ROWS);
+    pane.write("TAKEN");
+    pane.wait("one word on each half", |shown| shown.rows(1, 0, 40)[0] == "TAKEN" && shown.rows(1, 41, 40)[0] == "TAKEN");
 }
 
 /// What `stty -g` prints in a shell.
@@ -159,26 +168,46 @@ fn modes(shell: &Pane, when: &str) -> String {
     printed(&shell.wait(when, |shown| printed(shown).is_some())).unwrap()
 }
 
-/// Starts the program from a shell, ends it in some way, and looks whether the terminal is as it was.
-fn restored_after(name: &str, end: impl FnOnce(&Pane, &str)) {
+/// A shell, and the program started from it, with its process number.
+fn from_a_shell(name: &str) -> (Pane, String, String) {
     let shell = Pane::start(name, COLS, ROWS, "PS1='ready> ' sh");
     shell.wait_for("ready>");
     let before = modes(&shell, "before");
     let file = format!("{}/pid-{}-{name}", env!("CARGO_TARGET_TMPDIR"), std::process::id());
     shell.write(&format!("sh -c 'echo $$ > {file}; exec {} {GOOD_LINE}'\n", env!("CARGO_BIN_EXE_screens")));
     shell.wait_for("1LIST");
-    end(&shell, std::fs::read_to_string(&file).unwrap().trim());
+    let process = std::fs::read_to_string(&file).unwrap().trim().to_string();
     std::fs::remove_file(file).unwrap();
+    (shell, before, process)
+}
+
+fn signal(signal: &str, process: &str) -> bool {
+    Command::new("kill").args([signal, process]).output().unwrap().status.success()
+}
+
+#[test]
+fn leaving_restores_the_terminal() {
+    let (shell, before, _) = from_a_shell("leaving");
+    shell.press("C-q");
     shell.wait("the shell again", |shown| shown.has("before") && !shown.has("1LIST"));
     assert_eq!(modes(&shell, "after"), before);
 }
 
 #[test]
-fn leaving_restores_the_terminal() {
-    restored_after("leaving", |pane, _| pane.press("C-q"));
+fn a_request_to_end_restores_the_terminal() {
+    let (shell, before, process) = from_a_shell("asked");
+    assert!(signal("-TERM", &process));
+    shell.wait("the shell again", |shown| shown.has("before") && !shown.has("1LIST"));
+    assert_eq!(modes(&shell, "after"), before);
 }
 
 #[test]
-fn a_request_to_end_restores_the_terminal() {
-    restored_after("asked", |_, pid| assert!(Command::new("kill").args(["-TERM", pid]).status().unwrap().success()));
+fn a_terminal_that_is_gone_ends_the_program() {
+    let (shell, _, process) = from_a_shell("gone");
+    drop(shell);
+    let begun = Instant::now();
+    while signal("-0", &process) {
+        assert!(begun.elapsed() < DEADLINE, "the program goes on without a terminal");
+        sleep(Duration::from_millis(20));
+    }
 }
