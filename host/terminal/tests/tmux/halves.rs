@@ -153,6 +153,7 @@ fn resized() {
     pane.press("C-w");
     pane.wait_for("81 and 30 are needed");
     pane.resize(COLS, ROWS);
+    pane.wait_for("1LIST");
     pane.write("TAKEN");
     pane.wait("one word on each half", |shown| shown.rows(1, 0, 40)[0] == "TAKEN" && shown.rows(1, 41, 40)[0] == "TAKEN");
 }
