@@ -23,6 +23,7 @@ pub struct Screen {
 macro_rules! changing {
     ($($name:ident($($number:ident: $type:ty),*);)*) => {
         $(#[allow(missing_docs)]
+        #[track_caller]
         pub fn $name(&mut self $(, $number: $type)*) {
             accepted(self.screen.$name($($number),*))
         })*
@@ -49,6 +50,7 @@ impl Screen {
         (row as usize, col as usize)
     }
 
+    #[track_caller]
     pub fn set_cursor(&mut self, row: usize, col: usize) {
         accepted(self.screen.set_cursor(number(row), number(col)))
     }
@@ -65,10 +67,12 @@ impl Screen {
         self.screen.keys_visible()
     }
 
+    #[track_caller]
     pub fn cell(&self, row: usize, col: usize) -> Cell {
         accepted(self.screen.cell(number(row), number(col)))
     }
 
+    #[track_caller]
     pub fn continues(&self, row: usize) -> bool {
         accepted(self.screen.continues(number(row)))
     }
@@ -77,6 +81,7 @@ impl Screen {
         self.screen.editable_rows() as usize
     }
 
+    #[track_caller]
     pub fn set_width(&mut self, width: usize) -> bool {
         match self.screen.set_width(number(width)) {
             Err(Refusal::OutOfRange) => false,
@@ -96,11 +101,13 @@ impl Screen {
     }
 
     /// As in the Rust, U+2190 is byte 27 and what is above U+00FF is left out.
+    #[track_caller]
     pub fn print_str(&mut self, s: &str) {
         let byte = |c: char| if c == '\u{2190}' { Some(27) } else { u8::try_from(c).ok() };
         self.print_bytes(&s.chars().filter_map(byte).collect::<Vec<_>>())
     }
 
+    #[track_caller]
     pub fn take_logical_line(&mut self) -> String {
         string(accepted(self.screen.take_logical_line()))
     }

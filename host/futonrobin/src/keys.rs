@@ -8,7 +8,7 @@ const LONGEST: usize = 15;
 const SLOT: usize = 1 + LONGEST;
 
 /// What F1 to F10 type: at most 15 bytes each. A trailing 13 submits the line.
-#[derive(Clone, PartialEq, Eq)]
+#[derive(Clone, PartialEq, Eq, Debug)]
 pub struct KeyTable {
     bytes: Vec<u8>,
 }

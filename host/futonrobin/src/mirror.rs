@@ -1,7 +1,8 @@
 //! The second screen, which follows the first by reports.
 use crate::layout::{number, MIRROR, NEWEST_AT, SHOWN_AT};
-use crate::shown::kept;
+use crate::shown::{brief, kept};
 use crate::{ffi, Refusal, Shown};
+use std::fmt;
 
 /// A mirror of its own. Nothing but arrivals changes it.
 ///
@@ -56,5 +57,11 @@ impl Mirror {
 impl Shown for Mirror {
     fn record(&self) -> &[u8] {
         &self.bytes[SHOWN_AT..]
+    }
+}
+
+impl fmt::Debug for Mirror {
+    fn fmt(&self, f: &mut fmt::Formatter) -> fmt::Result {
+        brief("Mirror", self, f)
     }
 }

@@ -1,6 +1,7 @@
 //! Reports, as they are made from a screen or taken from a line.
 use crate::layout::{number, KIND_AT, REPORT_SERIAL_AT, REPORT_WIDTH_AT};
 use crate::{Mirror, Refusal};
+use std::fmt;
 
 /// What a report carries.
 #[derive(Clone, Copy, PartialEq, Eq, Debug)]
@@ -47,6 +48,12 @@ impl Report {
     /// How many changing calls the screen had accepted when the report was made.
     pub fn serial(&self) -> u32 {
         number(&self.bytes, REPORT_SERIAL_AT)
+    }
+}
+
+impl fmt::Debug for Report {
+    fn fmt(&self, f: &mut fmt::Formatter) -> fmt::Result {
+        write!(f, "Report {{ kind: {:?}, serial: {}, .. }}", self.kind(), self.serial())
     }
 }
 

@@ -1,7 +1,8 @@
 //! The screen that is typed on.
 use crate::layout::{LINE, REPORT, SCREEN};
-use crate::shown::{kept, text};
+use crate::shown::{brief, kept, text};
 use crate::{ffi, Refusal, Report, Shown};
+use std::fmt;
 
 /// A screen record of its own. Every changing call may be refused for a spent serial, after 4,294,967,295 of them; where another refusal is
 /// possible the method says so.
@@ -109,5 +110,11 @@ impl Screen {
 impl Shown for Screen {
     fn record(&self) -> &[u8] {
         &self.record
+    }
+}
+
+impl fmt::Debug for Screen {
+    fn fmt(&self, f: &mut fmt::Formatter) -> fmt::Result {
+        brief("Screen", self, f)
     }
 }

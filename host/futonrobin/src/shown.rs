@@ -1,6 +1,7 @@
 //! What a screen or a mirror shows, read by the exported reading and text calls.
 use crate::layout::{number, INSERT_AT, LINE, SERIAL_AT, SNAPSHOT, TOUCHED};
 use crate::{ffi, Refusal};
+use std::fmt;
 
 /// A character and its attribute: foreground is the low nibble, background the high one.
 #[derive(Clone, Copy, Debug, PartialEq, Eq)]
@@ -81,6 +82,18 @@ pub trait Shown {
     fn snapshot(&self) -> Vec<u8> {
         text(SNAPSHOT, |out| kept(ffi::screen_snapshot(self.record(), out)))
     }
+}
+
+/// What a screen or mirror shows in a few words, for `Debug`: its bytes would fill pages.
+pub(crate) fn brief(name: &str, shown: &impl Shown, f: &mut fmt::Formatter) -> fmt::Result {
+    let text = String::from_utf8_lossy(&shown.snapshot()).into_owned();
+    let (serial, width, cursor) = (shown.serial(), shown.width(), shown.cursor());
+    f.debug_struct(name)
+        .field("serial", &serial)
+        .field("width", &width)
+        .field("cursor", &cursor)
+        .field("text", &text)
+        .finish_non_exhaustive()
 }
 
 /// The answer of a call that document 01 does not refuse on bytes that keep their layout.

@@ -131,3 +131,27 @@ fn the_drop_in_panics_where_no_signature_has_room() {
     assert!(!drop_in::Screen::new(80).set_width((1 << 32) + 40));
     assert_eq!(drop_in::Screen::new((1 << 32) + 40).width(), 80);
 }
+
+#[test]
+fn what_differs_is_not_the_same() {
+    let screen = |text: &[u8], change: fn(&mut Screen) -> Result<(), Refusal>| {
+        let mut screen = Screen::new(80);
+        text.iter().for_each(|&ch| screen.type_char(ch).unwrap());
+        change(&mut screen).unwrap();
+        screen
+    };
+    let one = screen(b"AB", Screen::home);
+    assert!(one.same_as(&one.clone()));
+    let mut mirror = Mirror::new(80);
+    mirror.arrive(one.report_full()).unwrap();
+    assert!(mirror.same_as(&one), "touched rows are left out");
+    let others: [Screen; 6] = [
+        screen(b"AC", Screen::home),
+        screen(b"AB", Screen::move_left),
+        screen(b"AB", Screen::ctrl_enter),
+        screen(b"A", Screen::home),
+        screen(b"AB", |screen| screen.set_insert(true)),
+        screen(b"AB", |screen| screen.set_keys_on(false)),
+    ];
+    assert!(others.iter().all(|other| !one.same_as(other)));
+}

@@ -23,11 +23,11 @@ fn main() {
     let mut halves = Halves::new(40, FAULTS, SEED, now);
     for key in recorded() {
         let pressed = halves.press(key, now);
-        for datagram in pressed.into_iter().chain(halves.tick(now)) {
+        for datagram in pressed.into_iter().chain(halves.pass(now)) {
             halves.follower.receive(&datagram, now);
         }
     }
-    print!("{}", svg(&halves.canvas(SIZE, now)));
+    print!("{}", svg(&halves.canvas_at(SIZE, now)));
 }
 
 fn svg(canvas: &Canvas) -> String {

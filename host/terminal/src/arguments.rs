@@ -9,6 +9,7 @@ pub const HELP: &str = "\
 
   --width 40|80                       columns of the new screen (not for the invigilator)
   --loss N  --repeat N  --reorder N   how many datagrams in a hundred the line loses, repeats, reorders (likewise)
+                                      those that are not named are then 0
   --seed N                            what decides which ones (likewise); printed where it matters
   --keys FILE                         for candidate and invigilator, without a terminal: the candidate presses these keys,
                                       the invigilator compares its mirror with them after every arrival
@@ -22,7 +23,6 @@ pub enum Place {
     Both,
     To(SocketAddr),
     Listen(SocketAddr),
-    Help,
 }
 
 #[derive(PartialEq, Eq, Debug)]
@@ -34,8 +34,8 @@ pub struct Arguments {
     pub keys: Option<String>,
 }
 
-/// What the words ask for, or a sentence about the first that cannot be taken.
-pub fn read(words: impl IntoIterator<Item = String>) -> Result<Arguments, String> {
+/// What the words ask for, nothing if that is help, or a sentence about the first that cannot be taken.
+pub fn read(words: impl IntoIterator<Item = String>) -> Result<Option<Arguments>, String> {
     let mut words = words.into_iter().peekable();
     let program = words.next_if(|word| !word.starts_with('-'));
     let mut arguments = Arguments { place: Place::Both, width: None, faults: None, seed: None, keys: None };
@@ -43,14 +43,14 @@ pub fn read(words: impl IntoIterator<Item = String>) -> Result<Arguments, String
     while let Some(word) = words.next() {
         let mut value = || words.next().ok_or_else(|| format!("{word} needs a value after it; ./run --help lists the words"));
         match (word.as_str(), program.as_deref()) {
-            ("--help", _) => return Ok(Arguments { place: Place::Help, ..arguments }),
-            ("--to", Some("candidate")) => address = Some(Place::To(an_address(&value()?, 1)?)),
-            ("--listen", Some("invigilator")) => address = Some(Place::Listen(an_address(&value()?, 0)?)),
+            ("--help", _) => return Ok(None),
+            ("--to", Some("candidate")) => address = Some(Place::To(address_of(&value()?, 1)?)),
+            ("--listen", Some("invigilator")) => address = Some(Place::Listen(address_of(&value()?, 0)?)),
             ("--keys", Some("candidate" | "invigilator")) => arguments.keys = Some(value()?),
-            ("--width", None | Some("candidate")) => arguments.width = Some(a_width(&value()?)?),
-            ("--seed", None | Some("candidate")) => arguments.seed = Some(a_number(&word, &value()?, u64::MAX)?),
+            ("--width", None | Some("candidate")) => arguments.width = Some(width_of(&value()?)?),
+            ("--seed", None | Some("candidate")) => arguments.seed = Some(number_of(&word, &value()?, u64::MAX)?),
             ("--loss" | "--repeat" | "--reorder", None | Some("candidate")) => {
-                let percent = a_number(&word, &value()?, 100)? as u32;
+                let percent = number_of(&word, &value()?, 100)? as u32;
                 let faults = arguments.faults.get_or_insert_with(Faults::default);
                 match word.as_str() {
                     "--loss" => faults.loss = percent,
@@ -68,10 +68,10 @@ pub fn read(words: impl IntoIterator<Item = String>) -> Result<Arguments, String
         (Some("invigilator"), None) => return Err("an address to listen on is missing: ./run invigilator --listen HOST:PORT".into()),
         (Some(word), _) => return Err(format!("there is no program '{word}'; ./run --help lists the words")),
     };
-    Ok(arguments)
+    Ok(Some(arguments))
 }
 
-fn an_address(text: &str, lowest: u16) -> Result<SocketAddr, String> {
+fn address_of(text: &str, lowest: u16) -> Result<SocketAddr, String> {
     let (host, port) = text.rsplit_once(':').ok_or_else(|| format!("'{text}' is no address: HOST:PORT is wanted, as in 127.0.0.1:4000"))?;
     let port = port.parse::<u16>().ok().filter(|&port| port >= lowest);
     let port = port.ok_or_else(|| format!("the port of '{text}' is not a number from {lowest} to 65535"))?;
@@ -80,7 +80,7 @@ fn an_address(text: &str, lowest: u16) -> Result<SocketAddr, String> {
     found.ok_or_else(|| format!("the host of '{text}' has no address"))
 }
 
-fn a_width(text: &str) -> Result<u32, String> {
+fn width_of(text: &str) -> Result<u32, String> {
     match text {
         "40" => Ok(40),
         "80" => Ok(80),
@@ -88,7 +88,7 @@ fn a_width(text: &str) -> Result<u32, String> {
     }
 }
 
-fn a_number(word: &str, text: &str, most: u64) -> Result<u64, String> {
+fn number_of(word: &str, text: &str, most: u64) -> Result<u64, String> {
     let number = text.parse().ok().filter(|&number| number <= most);
     number.ok_or_else(|| format!("{word} takes a number from 0 to {most}, not '{text}'"))
 }

@@ -15,7 +15,7 @@ pub struct Spot {
 
 const BLANK: Spot = Spot { ch: ' ', attr: PLAIN };
 
-#[derive(Clone, Copy, PartialEq, Eq)]
+#[derive(Clone, Copy, PartialEq, Eq, Debug)]
 pub struct Size {
     pub cols: usize,
     pub rows: usize,
@@ -27,6 +27,7 @@ impl Size {
     }
 }
 
+#[derive(PartialEq, Eq)]
 pub struct Canvas {
     pub size: Size,
     pub cursor: Option<(usize, usize)>,
@@ -77,15 +78,25 @@ impl Canvas {
         }
     }
 
-    /// The canvas, or a sentence if it does not fit into the terminal; `else_press` is what can be pressed then.
-    pub fn if_it_fits(needed: Size, size: Size, else_press: &str, paint: impl FnOnce(&mut Canvas)) -> Self {
+    /// The last submitted lines, in the rows from `top` on.
+    pub fn list(&mut self, top: usize, submitted: &[String]) {
+        let rows = self.size.rows.saturating_sub(top);
+        let first = submitted.len().saturating_sub(rows);
+        for (at, line) in submitted[first..].iter().enumerate() {
+            self.text(top + at, 0, &format!("submitted {}: {line}", first + at + 1), PLAIN);
+        }
+    }
+
+    /// The canvas, or a sentence if it does not fit into the terminal.
+    pub fn if_it_fits(needed: Size, size: Size, paint: impl FnOnce(&mut Canvas)) -> Self {
         let mut canvas = Canvas::new(size);
         if needed.fits(size) {
             paint(&mut canvas);
             return canvas;
         }
         let (has, needs) = (format!("{} columns and {} rows", size.cols, size.rows), format!("{} and {}", needed.cols, needed.rows));
-        let sentence = format!("The terminal is too small: it has {has}, and {needs} are needed. Make it larger, or press {else_press}.");
+        let sentence =
+            format!("The terminal is too small: it has {has}, and {needs} are needed. Make it larger, or press Ctrl-Q to leave.");
         let mut place = (0, 0);
         for word in sentence.split(' ') {
             if place.1 > 0 && place.1 + word.len() > size.cols {

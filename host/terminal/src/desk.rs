@@ -17,6 +17,10 @@ impl Desk {
         Self { screen: Screen::new(width), table: KeyTable::standard(), submitted: Vec::new() }
     }
 
+    pub fn other_width(&self) -> u32 {
+        other_width(&self.screen)
+    }
+
     /// Presses a key, and makes a step report for each call.
     pub fn press(&mut self, key: Key) -> Result<Vec<Report>, Refusal> {
         keys::single(key, &self.table).into_iter().map(|key| self.call(key)).collect()
@@ -46,12 +50,17 @@ impl Desk {
             Key::CtrlEnd => screen.erase_to_end()?,
             Key::Break => screen.break_line()?,
             Key::Colour => screen.set_attr(next_colour(screen.attr()))?,
-            Key::Width => screen.set_width(120 - screen.width())?,
+            Key::Width => screen.set_width(other_width(screen))?,
             Key::Strip => screen.set_keys_on(!screen.keys_visible())?,
             Key::Function(_) => unreachable!("a function key is split into single keys"),
         }
         Ok(self.screen.report_step())
     }
+}
+
+/// 40 for 80, and 80 for 40.
+fn other_width(screen: &Screen) -> u32 {
+    120 - screen.width()
 }
 
 fn next_colour(attr: u8) -> u8 {

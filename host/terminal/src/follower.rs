@@ -1,6 +1,6 @@
 //! The invigilator's end of the line: one mirror for one run.
 use crate::datagram::{self, Datagram, Run, Shows};
-use futonrobin::{Mirror, Report, Shown};
+use futonrobin::{Mirror, Shown};
 use std::fmt;
 use std::time::{Duration, Instant};
 
@@ -10,8 +10,8 @@ pub const SILENT_AFTER: Duration = Duration::from_secs(5);
 #[derive(Default)]
 pub struct Follower {
     following: Option<Following>,
-    /// Another run that was heard of since: the candidate has restarted.
-    other: Option<Run>,
+    /// Another run that was heard of since: the candidate has restarted. It has its own mirror from its first report on.
+    other: Option<Following>,
     pub arrived: u64,
     pub garbage: u64,
     pub foreign: u64,
@@ -34,7 +34,8 @@ pub enum Taken {
 #[derive(Clone, Copy, PartialEq, Eq, Debug)]
 pub enum State {
     Waiting,
-    Restarted,
+    /// Seconds since this run was heard, and the other.
+    Restarted(u64, u64),
     Silent(u64),
     Behind(u32),
     Level,
@@ -56,35 +57,31 @@ impl Follower {
     }
 
     fn report(&mut self, run: Run, report: &[u8], now: Instant) -> Taken {
-        let good = || Report::from_bytes(report).is_ok();
-        if self.following.is_none() && good() {
-            self.follow(run, now);
-        }
-        match &mut self.following {
-            Some(following) if following.run == run => {
-                if following.mirror.arrive(report).is_err() {
-                    return Taken::Garbage;
+        let (place, taken) = match &self.following {
+            Some(following) if following.run.number != run.number => (&mut self.other, Taken::Foreign),
+            _ => (&mut self.following, Taken::Arrived),
+        };
+        let accepted = match place {
+            Some(known) if known.run.number == run.number => known.run == run && known.arrive(report, now),
+            _ => match Following::begun(run, report, now) {
+                Some(begun) => {
+                    *place = Some(begun);
+                    true
                 }
-                following.heard = now;
-                Taken::Arrived
-            }
-            Some(following) if following.run.number != run.number && good() => {
-                self.other = Some(run);
-                Taken::Foreign
-            }
-            _ => Taken::Garbage,
+                None => false,
+            },
+        };
+        if accepted {
+            taken
+        } else {
+            Taken::Garbage
         }
     }
 
-    fn follow(&mut self, run: Run, now: Instant) {
-        self.following = Some(Following { run, mirror: Mirror::new(run.width.into()), heard: now });
-        self.other = None;
-    }
-
-    /// Leaves the run that is followed for the other that was heard of, with a new mirror.
-    pub fn follow_other(&mut self, now: Instant) {
-        if let Some(run) = self.other {
-            self.follow(run, now);
+    /// Leaves the run that is followed for the other that was heard of.
+    pub fn follow_other(&mut self) {
+        if let Some(other) = self.other.take() {
+            self.following = Some(other);
         }
     }
 
@@ -103,9 +100,9 @@ impl Follower {
 
     /// How far the mirror may be trusted to be the newest. It is level only while its run is heard, and no other.
     pub fn state(&self, now: Instant) -> State {
-        match (&self.following, self.other) {
+        match (&self.following, &self.other) {
             (None, _) => State::Waiting,
-            (Some(_), Some(_)) => State::Restarted,
+            (Some(this), Some(other)) => State::Restarted(this.silence(now).as_secs(), other.silence(now).as_secs()),
             (Some(following), None) => following.state(now),
         }
     }
@@ -117,8 +114,26 @@ impl Follower {
 }
 
 impl Following {
+    /// A run whose first report is accepted by a mirror of its width.
+    fn begun(run: Run, report: &[u8], now: Instant) -> Option<Self> {
+        let mut following = Self { run, mirror: Mirror::new(run.width.into()), heard: now };
+        following.arrive(report, now).then_some(following)
+    }
+
+    fn arrive(&mut self, report: &[u8], now: Instant) -> bool {
+        let accepted = self.mirror.arrive(report).is_ok();
+        if accepted {
+            self.heard = now;
+        }
+        accepted
+    }
+
+    fn silence(&self, now: Instant) -> Duration {
+        now.saturating_duration_since(self.heard)
+    }
+
     fn state(&self, now: Instant) -> State {
-        let silence = now.saturating_duration_since(self.heard);
+        let silence = self.silence(now);
         if silence >= SILENT_AFTER {
             State::Silent(silence.as_secs())
         } else if self.mirror.is_level() {
@@ -133,7 +148,7 @@ impl fmt::Display for State {
     fn fmt(&self, f: &mut fmt::Formatter) -> fmt::Result {
         match self {
             State::Waiting => write!(f, "WAITING for a candidate"),
-            State::Restarted => write!(f, "RESTARTED: the candidate has begun another run"),
+            State::Restarted(this, other) => write!(f, "RESTARTED: this run heard {this} s ago, another {other} s ago"),
             State::Silent(seconds) => write!(f, "SILENT for {seconds} s"),
             State::Behind(calls) => write!(f, "BEHIND by {calls}"),
             State::Level => write!(f, "LEVEL"),
@@ -144,7 +159,7 @@ impl fmt::Display for State {
 #[cfg(test)]
 mod tests {
     use super::*;
-    use futonrobin::Screen;
+    use futonrobin::{Report, Screen};
 
     const RUN: Run = Run { number: 1, width: 40 };
     const OTHER: Run = Run { number: 2, width: 80 };
@@ -177,12 +192,32 @@ mod tests {
         let (mut follower, now) = (Follower::default(), Instant::now());
         follower.receive(&datagram(RUN, typed(b"OLD", 40).report_full()), now);
         assert_eq!(follower.receive(&datagram(OTHER, typed(b"NEW", 80).report_full()), now), Taken::Foreign);
-        assert_eq!((follower.state(now), follower.foreign), (State::Restarted, 1));
+        assert_eq!((follower.state(now), follower.foreign), (State::Restarted(0, 0), 1));
         assert_eq!(follower.mirror().unwrap().snapshot(), b"OLD");
-        follower.follow_other(now);
-        assert_eq!((follower.run(), follower.shows()), (Some(OTHER), Shows { m: 0, n: 0 }));
+        follower.follow_other();
+        assert_eq!((follower.run(), follower.shows()), (Some(OTHER), Shows { m: 3, n: 3 }));
         follower.receive(&datagram(OTHER, typed(b"NEW", 80).report_full()), now);
         assert_eq!((follower.state(now), follower.mirror().unwrap().snapshot()), (State::Level, b"NEW".to_vec()));
+    }
+
+    #[test]
+    fn what_the_mirror_refuses_is_never_first() {
+        let (mut follower, now) = (Follower::default(), Instant::now());
+        // A step of a screen of 80 columns, said to be of a run that began with 40.
+        assert_eq!(follower.receive(&datagram(RUN, typed(b"A", 80).report_step()), now), Taken::Garbage);
+        assert_eq!((follower.state(now), follower.run()), (State::Waiting, None));
+    }
+
+    #[test]
+    fn a_run_that_is_silent_beside_another_is_told_so() {
+        let (mut follower, now) = (Follower::default(), Instant::now());
+        follower.receive(&datagram(RUN, typed(b"A", 40).report_full()), now);
+        let later = now + Duration::from_secs(8);
+        follower.receive(&datagram(OTHER, typed(b"B", 80).report_full()), later);
+        let broken = datagram(Run { number: 3, width: 80 }, typed(b"C", 80).report_full());
+        assert_eq!(follower.receive(&broken[..broken.len() - 1], later), Taken::Garbage);
+        assert_eq!(follower.state(later), State::Restarted(8, 0));
+        assert_eq!(follower.state(later).to_string(), "RESTARTED: this run heard 8 s ago, another 0 s ago");
     }
 
     #[test]

@@ -5,19 +5,18 @@ use crate::follower::{Follower, State};
 use crate::keys::Key;
 use crate::line::{Faults, Line};
 use crate::sender::Sender;
-use crate::terminal::{Input, Terminal};
+use crate::terminal::{Input, Program};
 use futonrobin::Shown;
 use std::io;
-use std::time::{Duration, Instant};
+use std::time::Instant;
 
-const TICK: Duration = Duration::from_millis(50);
 /// The line to begin with: bad enough to be seen.
 pub const FAULTS: Faults = Faults { loss: 10, repeat: 10, reorder: 30 };
 const PERCENTAGES: [u32; 5] = [0, 10, 30, 60, 100];
 
 /// Under a row of titles and the screens: state, line, help, and a row for the last submitted line.
 const ROWS: usize = 1 + 25 + 4;
-const HELP: &str = "Ctrl-: Q leave, X cut, L loss, R repeat, O reorder; A colour, K keys, W width";
+const HELP: &str = "Ctrl-Q leaves, Ctrl-X cuts the line; Ctrl-L, R, O: faults; Ctrl-A, K, W: modes";
 
 pub struct Halves {
     pub desk: Desk,
@@ -36,8 +35,8 @@ impl Halves {
         self.sender.send(&self.desk.screen.report_full(), now)
     }
 
-    /// Time passes: the line lets go of what it held back, and a full report may be due; what arrives now.
-    pub fn tick(&mut self, now: Instant) -> Vec<Vec<u8>> {
+    /// Time passes: the line releases what it held back, and a full report may be due; what arrives now.
+    pub fn pass(&mut self, now: Instant) -> Vec<Vec<u8>> {
         let released = self.sender.release();
         released.into_iter().chain(self.sender.full_if_due(&self.desk.screen, now)).collect()
     }
@@ -61,18 +60,24 @@ impl Halves {
             Input::Repeat => line.faults.repeat = next_percentage(line.faults.repeat),
             Input::Reorder => line.faults.reorder = next_percentage(line.faults.reorder),
             Input::Cut => line.cut = !line.cut,
-            Input::Key(_) | Input::Leave | Input::Follow | Input::Redraw => {}
+            Input::Key(_) | Input::Leave | Input::Follow | Input::Resized(_) => {}
         }
     }
 
-    fn needed(&self) -> Size {
-        let mirrored = self.follower.mirror().map_or(0, |mirror| mirror.width());
-        let width = self.desk.screen.width().max(mirrored) as usize;
-        Size { cols: 2 * width + 1, rows: ROWS }
+    fn arrive(&mut self, datagrams: Vec<Vec<u8>>) {
+        for datagram in datagrams {
+            self.follower.receive(&datagram, Instant::now());
+        }
     }
 
-    pub fn canvas(&self, size: Size, now: Instant) -> Canvas {
-        Canvas::if_it_fits(self.needed(), size, "Ctrl-W for the other width, or Ctrl-Q to leave", |canvas| self.paint(canvas, now))
+    /// Both halves are as wide as the wider one.
+    fn needed(&self) -> Size {
+        let mirrored = self.follower.mirror().map_or(0, |mirror| mirror.width());
+        needed_for(self.desk.screen.width().max(mirrored))
+    }
+
+    pub fn canvas_at(&self, size: Size, now: Instant) -> Canvas {
+        Canvas::if_it_fits(self.needed(), size, |canvas| self.paint(canvas, now))
     }
 
     fn paint(&self, canvas: &mut Canvas, now: Instant) {
@@ -97,7 +102,7 @@ impl Halves {
         canvas.text(26, right, &format!("m {}  n {}  {state}", shows.m, shows.n), if state == State::Level { PLAIN } else { STRONG });
         canvas.text(27, 0, &self.line(), PLAIN);
         canvas.text(28, 0, HELP, PLAIN);
-        list(canvas, 29, submitted);
+        canvas.list(29, submitted);
     }
 
     fn line(&self) -> String {
@@ -107,40 +112,35 @@ impl Halves {
     }
 }
 
-/// The last submitted lines, in the rows from `top` on.
-pub fn list(canvas: &mut Canvas, top: usize, submitted: &[String]) {
-    let rows = canvas.size.rows.saturating_sub(top);
-    let first = submitted.len().saturating_sub(rows);
-    for (at, line) in submitted[first..].iter().enumerate() {
-        canvas.text(top + at, 0, &format!("submitted {}: {line}", first + at + 1), PLAIN);
+impl Program for Halves {
+    fn tick(&mut self) -> io::Result<()> {
+        let arriving = self.pass(Instant::now());
+        self.arrive(arriving);
+        Ok(())
     }
+
+    fn canvas(&self, size: Size) -> Canvas {
+        self.canvas_at(size, Instant::now())
+    }
+
+    fn input(&mut self, input: Input, size: Size) {
+        match input {
+            // The other width clears the screen, so it is not taken where it could not be shown.
+            Input::Key(Key::Width) if !needed_for(self.desk.other_width()).fits(size) => {}
+            // Nobody types on a screen that is not shown.
+            Input::Key(key) if self.needed().fits(size) => {
+                let arriving = self.press(key, Instant::now());
+                self.arrive(arriving);
+            }
+            _ => self.turn(input),
+        }
+    }
+}
+
+fn needed_for(width: u32) -> Size {
+    Size { cols: 2 * width as usize + 1, rows: ROWS }
 }
 
 fn next_percentage(now: u32) -> u32 {
     PERCENTAGES.into_iter().find(|&percentage| percentage > now).unwrap_or(0)
-}
-
-/// Runs until the key to leave is pressed.
-pub fn run(width: Option<u32>, faults: Option<Faults>, seed: u64) -> io::Result<()> {
-    let mut terminal = Terminal::enter()?;
-    let size = terminal.size()?;
-    let widest = if size.cols > 160 { 80 } else { 40 };
-    let mut halves = Halves::new(width.unwrap_or(widest), faults.unwrap_or(FAULTS), seed, Instant::now());
-    let mut arriving = halves.full(Instant::now());
-    loop {
-        arriving.extend(halves.tick(Instant::now()));
-        for datagram in arriving.drain(..) {
-            halves.follower.receive(&datagram, Instant::now());
-        }
-        let size = terminal.size()?;
-        terminal.show(halves.canvas(size, Instant::now()))?;
-        match terminal.next(TICK)? {
-            Some(Input::Leave) => return Ok(()),
-            // Nobody types on a screen that is not shown.
-            Some(Input::Key(key)) if key != Key::Width && !halves.needed().fits(size) => {}
-            Some(Input::Key(key)) => arriving = halves.press(key, Instant::now()),
-            Some(input) => halves.turn(input),
-            None => {}
-        }
-    }
 }

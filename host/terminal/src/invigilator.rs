@@ -3,7 +3,7 @@ use crate::canvas::{Canvas, Size, PLAIN, STRONG};
 use crate::datagram::{self, Datagram};
 use crate::follower::{Follower, State, Taken};
 use crate::keys::Key;
-use crate::terminal::{Input, Terminal};
+use crate::terminal::{self, Input, Program};
 use crate::udp::{drain, socket_at};
 use crate::witness::Witness;
 use futonrobin::{KeyTable, Shown};
@@ -12,8 +12,7 @@ use std::net::{SocketAddr, UdpSocket};
 use std::thread::sleep;
 use std::time::{Duration, Instant};
 
-const TICK: Duration = Duration::from_millis(20);
-const ROWS: usize = 25 + 3;
+const NEEDED: Size = Size { cols: 80, rows: 25 + 3 };
 const HELP: &str = "Ctrl-Q leaves, Ctrl-N follows the run heard of last";
 
 /// At most so often the candidate is told what the mirror shows, or asked for a full report.
@@ -25,6 +24,8 @@ const LAST: Duration = Duration::from_millis(500);
 struct Invigilator {
     follower: Follower,
     socket: UdpSocket,
+    listen: SocketAddr,
+    table: KeyTable,
     /// Where the run that is followed comes from.
     from: Option<SocketAddr>,
     told: Instant,
@@ -35,7 +36,8 @@ struct Invigilator {
 impl Invigilator {
     fn new(listen: SocketAddr) -> io::Result<Self> {
         let socket = socket_at(listen)?;
-        Ok(Self { follower: Follower::default(), socket, from: None, told: Instant::now(), untold: false })
+        let (listen, table) = (socket.local_addr()?, KeyTable::standard());
+        Ok(Self { follower: Follower::default(), socket, listen, table, from: None, told: Instant::now(), untold: false })
     }
 
     /// Takes all that has come, and hands each arrival on.
@@ -62,20 +64,18 @@ impl Invigilator {
         (self.told, self.untold) = (Instant::now(), false);
     }
 
-    fn canvas(&self, size: Size, table: &KeyTable) -> Canvas {
-        let cols = self.follower.mirror().map_or(80, |mirror| mirror.width()) as usize;
-        Canvas::if_it_fits(Size { cols, rows: ROWS }, size, "Ctrl-Q to leave", |canvas| {
-            if let Some(mirror) = self.follower.mirror() {
-                canvas.screen(0, 0, mirror, table);
-                let (row, col) = mirror.cursor();
-                canvas.cursor = Some((row as usize, col as usize));
-            }
-            let (shows, state) = (self.follower.shows(), self.follower.state(Instant::now()));
-            let emphasis = if state == State::Level { PLAIN } else { STRONG };
-            canvas.text(25, 0, &format!("INVIGILATOR  m {}  n {}  {state}", shows.m, shows.n), emphasis);
-            canvas.text(26, 0, &self.counts(), PLAIN);
-            canvas.text(27, 0, HELP, PLAIN);
-        })
+    fn paint(&self, canvas: &mut Canvas) {
+        if let Some(mirror) = self.follower.mirror() {
+            canvas.screen(0, 0, mirror, &self.table);
+            let (row, col) = mirror.cursor();
+            canvas.cursor = Some((row as usize, col as usize));
+        }
+        let (shows, state) = (self.follower.shows(), self.follower.state(Instant::now()));
+        let emphasis = if state == State::Level { PLAIN } else { STRONG };
+        let at = if state == State::Waiting { format!(" at {}", self.listen) } else { String::new() };
+        canvas.text(25, 0, &format!("INVIGILATOR  m {}  n {}  {state}{at}", shows.m, shows.n), emphasis);
+        canvas.text(26, 0, &self.counts(), PLAIN);
+        canvas.text(27, 0, HELP, PLAIN);
     }
 
     fn counts(&self) -> String {
@@ -85,34 +85,43 @@ impl Invigilator {
     }
 }
 
-/// Runs until the key to leave is pressed.
-pub fn in_terminal(listen: SocketAddr) -> io::Result<()> {
-    let mut invigilator = Invigilator::new(listen)?;
-    let mut terminal = Terminal::enter()?;
-    let table = KeyTable::standard();
-    loop {
-        invigilator.receive(|_| ())?;
-        invigilator.tell();
-        let size = terminal.size()?;
-        terminal.show(invigilator.canvas(size, &table))?;
-        match terminal.next(TICK)? {
-            Some(Input::Leave) => return Ok(()),
-            Some(Input::Follow) => invigilator.follower.follow_other(Instant::now()),
-            _ => {}
+impl Program for Invigilator {
+    fn tick(&mut self) -> io::Result<()> {
+        self.receive(|_| ())?;
+        self.tell();
+        Ok(())
+    }
+
+    fn canvas(&self, size: Size) -> Canvas {
+        Canvas::if_it_fits(NEEDED, size, |canvas| self.paint(canvas))
+    }
+
+    fn input(&mut self, input: Input, _: Size) {
+        if input == Input::Follow {
+            self.follower.follow_other();
+            // Its reports may come from elsewhere.
+            self.from = None;
         }
     }
+}
+
+pub fn in_terminal(listen: SocketAddr) -> io::Result<()> {
+    terminal::run(&mut Invigilator::new(listen)?)
 }
 
 /// Knows the candidate's keys and compares the mirror after every arrival. It holds if none was wrong and the last screen was shown.
 pub fn with_keys(listen: SocketAddr, keys: &[Key]) -> io::Result<bool> {
     let mut invigilator = Invigilator::new(listen)?;
-    println!("invigilator: listening on {}", invigilator.socket.local_addr()?);
+    println!("invigilator: listening on {}", invigilator.listen);
     let mut witness: Option<Witness> = None;
     let (mut wrong, mut level, mut heard) = (0u64, 0u64, Instant::now());
     loop {
         let came = invigilator.receive(|follower| {
             let (Some(run), Some(mirror)) = (follower.run(), follower.mirror()) else { return };
-            let witness = witness.get_or_insert_with(|| Witness::new(run.width.into(), keys));
+            let witness = witness.get_or_insert_with(|| {
+                println!("invigilator: follows run {:016x}", run.number);
+                Witness::new(run.width.into(), keys)
+            });
             level += mirror.is_level() as u64;
             if let Err(difference) = witness.check(mirror) {
                 wrong += 1;

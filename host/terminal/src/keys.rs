@@ -74,7 +74,11 @@ pub fn read(text: &str) -> Result<Vec<Key>, String> {
     while let Some(c) = rest.next() {
         match c {
             '\n' | '\r' => {}
-            '<' => keys.push(named(&rest.by_ref().take_while(|&c| c != '>').collect::<String>())?),
+            '<' => {
+                let (name, after) = rest.as_str().split_once('>').ok_or("a < has no > after it; <lt> is the character")?;
+                keys.push(named(name)?);
+                rest = after.chars();
+            }
             _ => keys.push(Char(glyphs::byte(c).ok_or_else(|| format!("'{c}' is not in code page 437"))?)),
         }
     }
@@ -86,7 +90,7 @@ fn named(name: &str) -> Result<Key, String> {
         return Ok(Char(b'<'));
     }
     let found = NAMED.iter().find(|(known, _)| *known == name);
-    found.map(|(_, key)| *key).ok_or_else(|| format!("there is no key <{name}>"))
+    found.map(|(_, key)| *key).ok_or_else(|| format!("there is no key <{}>", name.chars().take(20).collect::<String>()))
 }
 
 /// The file that `read` reads as these keys.
@@ -120,6 +124,7 @@ mod tests {
     #[test]
     fn what_is_no_key_is_named() {
         assert_eq!(read("A<Entr>"), Err("there is no key <Entr>".into()));
+        assert_eq!(read("A<Enter"), Err("a < has no > after it; <lt> is the character".into()));
         assert_eq!(read("5 €"), Err("'€' is not in code page 437".into()));
     }
 }

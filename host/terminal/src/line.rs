@@ -74,3 +74,38 @@ impl Line {
         self.random.rand_range(0..100) < percent
     }
 }
+
+#[cfg(test)]
+mod tests {
+    use super::*;
+
+    /// How many of 1,000 datagrams come out, and whether in their order, when all that is held is released at the end.
+    fn passed(faults: Faults) -> (usize, bool) {
+        let mut line = Line::new(faults, 7);
+        let mut out: Vec<Vec<u8>> = (0..1000u32).flat_map(|n| line.send(n.to_be_bytes().to_vec())).collect();
+        while let Some(released) = line.release() {
+            out.push(released);
+        }
+        (out.len(), out.is_sorted())
+    }
+
+    #[test]
+    fn each_fault_does_its_own() {
+        assert_eq!(passed(Faults::default()), (1000, true));
+        assert_eq!(passed(Faults { loss: 100, ..Faults::default() }), (0, true));
+        assert_eq!(passed(Faults { repeat: 100, ..Faults::default() }), (2000, true));
+        assert_eq!(passed(Faults { reorder: 100, ..Faults::default() }), (1000, false));
+        let (lossy, _) = passed(Faults { loss: 30, ..Faults::default() });
+        assert!((600..800).contains(&lossy), "{lossy}");
+    }
+
+    #[test]
+    fn a_cut_line_passes_nothing() {
+        let mut line = Line::new(Faults { reorder: 100, ..Faults::default() }, 7);
+        line.send(vec![1]);
+        line.cut = true;
+        assert_eq!((line.send(vec![2]), line.release(), line.lost, line.held()), (vec![], None, 1, 1));
+        line.cut = false;
+        assert_eq!(line.release(), Some(vec![1]));
+    }
+}

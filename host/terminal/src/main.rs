@@ -2,13 +2,18 @@
 #![forbid(unsafe_code)]
 use std::io::{self, IsTerminal};
 use std::process::exit;
+use std::time::Instant;
 use terminal::arguments::{self, Arguments, Place};
+use terminal::halves::{self, Halves};
 use terminal::keys::{self, Key};
 use terminal::line::Faults;
-use terminal::{candidate, halves, invigilator, played, sender};
+use terminal::{candidate, invigilator, played, sender};
 
 fn main() {
-    let arguments = arguments::read(std::env::args().skip(1)).unwrap_or_else(|sentence| end(2, &sentence));
+    let Some(arguments) = arguments::read(std::env::args().skip(1)).unwrap_or_else(|sentence| end(2, &sentence)) else {
+        print!("{}", arguments::HELP);
+        return;
+    };
     match run(arguments) {
         Ok(held) => exit(!held as i32),
         Err(sentence) => end(1, &sentence),
@@ -21,26 +26,30 @@ fn end(status: i32, sentence: &str) -> ! {
 }
 
 fn run(Arguments { place, width, faults, seed, keys }: Arguments) -> Result<bool, String> {
-    let terminal = io::stdin().is_terminal() && io::stdout().is_terminal();
+    let in_terminal = io::stdin().is_terminal() && io::stdout().is_terminal();
     let seed = seed.unwrap_or_else(|| sender::random_number() >> 32);
     let keys = keys.map(|file| from_file(&file)).transpose()?;
-    let (columns, good) = (width.unwrap_or(80), faults.unwrap_or_default());
-    match (place, keys) {
-        (Place::Help, _) => {
-            print!("{}", arguments::HELP);
-            Ok(true)
-        }
-        (Place::Both, _) if terminal => halves::run(width, faults, seed).map(|()| true).map_err(|problem| problem.to_string()),
-        (Place::Both, _) => {
-            let faults = faults.unwrap_or(Faults::BAD);
-            played::play(&played::recorded(), columns, faults, seed, &mut io::stdout().lock()).map_err(|problem| problem.to_string())
-        }
-        (Place::To(to), Some(keys)) => candidate::with_keys(to, columns, good, seed, &keys).map_err(|problem| problem.to_string()),
-        (Place::Listen(listen), Some(keys)) => invigilator::with_keys(listen, &keys).map_err(|problem| cannot_listen(listen, problem)),
-        _ if !terminal => Err("there is no terminal to type on; without one, --keys FILE has the keys".into()),
-        (Place::To(to), None) => candidate::in_terminal(to, columns, good, seed).map(|()| true).map_err(|problem| problem.to_string()),
-        (Place::Listen(listen), None) => invigilator::in_terminal(listen).map(|()| true).map_err(|problem| cannot_listen(listen, problem)),
-    }
+    let columns = width.unwrap_or(80);
+    let done = match (place, keys) {
+        (Place::Both, _) if in_terminal => both(width, faults.unwrap_or(halves::FAULTS), seed),
+        (Place::Both, _) => played::play(&played::recorded(), columns, faults.unwrap_or(Faults::BAD), seed, &mut io::stdout().lock()),
+        (Place::To(to), Some(keys)) => candidate::with_keys(to, columns, faults.unwrap_or_default(), seed, &keys),
+        (Place::Listen(listen), Some(keys)) => invigilator::with_keys(listen, &keys),
+        _ if !in_terminal => return Err("standard input and output are no terminal; without one, --keys FILE has the keys".into()),
+        (Place::To(to), None) => candidate::in_terminal(to, columns, faults.unwrap_or_default(), seed).map(|()| true),
+        (Place::Listen(listen), None) => invigilator::in_terminal(listen).map(|()| true),
+    };
+    done.map_err(|problem| match place {
+        Place::Listen(listen) => cannot_listen(listen, problem),
+        _ => problem.to_string(),
+    })
+}
+
+/// Both screens, as wide as the terminal has room for.
+fn both(width: Option<u32>, faults: Faults, seed: u64) -> io::Result<bool> {
+    let widest = if terminal::terminal::size()?.cols > 160 { 80 } else { 40 };
+    terminal::terminal::run(&mut Halves::new(width.unwrap_or(widest), faults, seed, Instant::now()))?;
+    Ok(true)
 }
 
 fn from_file(file: &str) -> Result<Vec<Key>, String> {

@@ -22,11 +22,11 @@ pub fn play(keys: &[Key], width: u32, faults: Faults, seed: u64, out: &mut impl 
     let mut verdict = Verdict { witness: Witness::new(width, keys), level: 0, behind: 0, wrong: Vec::new() };
     for &key in keys {
         let pressed = halves.press(key, now);
-        for datagram in pressed.into_iter().chain(halves.tick(now)) {
+        for datagram in pressed.into_iter().chain(halves.pass(now)) {
             verdict.arrives(&mut halves.follower, &datagram, now);
         }
     }
-    // The line gets good again, and a last full report arrives.
+    // From here on the line is good, and a last full report arrives.
     halves.sender.line.faults = Faults::default();
     for datagram in halves.full(now) {
         verdict.arrives(&mut halves.follower, &datagram, now);

@@ -63,3 +63,35 @@ impl Sender {
 pub fn random_number() -> u64 {
     std::collections::hash_map::RandomState::new().build_hasher().finish()
 }
+
+#[cfg(test)]
+mod tests {
+    use super::*;
+    use crate::line::Faults;
+
+    #[test]
+    fn full_reports_when_they_are_due() {
+        let (begun, mut screen) = (Instant::now(), Screen::new(40));
+        let mut sender = Sender::new(40, Line::new(Faults::default(), 1), begun);
+        let due = |sender: &mut Sender, screen: &Screen, millis: u64| {
+            let leaving = sender.full_if_due(screen, begun + Duration::from_millis(millis));
+            leaving.iter().any(|bytes| matches!(datagram::read(bytes), Some((_, Datagram::Report(report))) if report.len() == 4043))
+        };
+        assert!(!due(&mut sender, &screen, 999));
+        assert!(due(&mut sender, &screen, 1000), "the line was silent");
+        for n in 1..=24 {
+            screen.type_char(b'A').unwrap();
+            sender.send(&screen.report_step(), begun + Duration::from_millis(1000 + 80 * n));
+            assert!(!due(&mut sender, &screen, 1000 + 80 * n));
+        }
+        screen.type_char(b'A').unwrap();
+        sender.send(&screen.report_step(), begun + Duration::from_millis(3000));
+        assert!(due(&mut sender, &screen, 3000), "25 steps");
+        for n in 1..=5 {
+            screen.type_char(b'A').unwrap();
+            sender.send(&screen.report_step(), begun + Duration::from_millis(3000 + 599 * n));
+            assert!(!due(&mut sender, &screen, 3000 + 599 * n));
+        }
+        assert!(due(&mut sender, &screen, 6000), "three seconds");
+    }
+}

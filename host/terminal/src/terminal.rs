@@ -27,22 +27,57 @@ pub enum Input {
     Cut,
     /// The invigilator follows the run that was heard of last.
     Follow,
-    Redraw,
+    Resized(Size),
 }
 
+/// A program in a terminal.
+pub trait Program {
+    /// Time passes, and what has come is taken.
+    fn tick(&mut self) -> io::Result<()>;
+    fn canvas(&self, size: Size) -> Canvas;
+    /// Something is pressed, in a terminal of this size.
+    fn input(&mut self, input: Input, size: Size);
+}
+
+/// Runs it until the key to leave is pressed.
+pub fn run(program: &mut impl Program) -> io::Result<()> {
+    let mut terminal = Terminal::enter()?;
+    let mut size = size()?;
+    loop {
+        program.tick()?;
+        terminal.show(program.canvas(size))?;
+        for input in terminal.inputs(TICK)? {
+            match input {
+                Input::Leave => return Ok(()),
+                Input::Resized(new) => size = new,
+                _ => program.input(input, size),
+            }
+        }
+    }
+}
+
+pub fn size() -> io::Result<Size> {
+    let (cols, rows) = terminal::size()?;
+    Ok(Size { cols: cols.into(), rows: rows.into() })
+}
+
+const TICK: Duration = Duration::from_millis(20);
+/// So many inputs are taken before the screen is shown again: a pasted text needs no painting for each key.
+const BATCH: usize = 256;
+
 /// While it lives the terminal is ours; what it was before comes back in any case, a panic and a request to end included.
-pub struct Terminal {
+struct Terminal {
     out: BufWriter<Stdout>,
     shown: Option<Canvas>,
     ended: Arc<AtomicBool>,
 }
 
 impl Terminal {
-    pub fn enter() -> io::Result<Self> {
-        let told = panic::take_hook();
+    fn enter() -> io::Result<Self> {
+        let hook = panic::take_hook();
         panic::set_hook(Box::new(move |why| {
             restore();
-            told(why);
+            hook(why);
         }));
         let ended = Arc::new(AtomicBool::new(false));
         // A terminal that is gone needs nothing back: SIGHUP ends the program as it is.
@@ -57,13 +92,11 @@ impl Terminal {
         Ok(terminal)
     }
 
-    pub fn size(&self) -> io::Result<Size> {
-        let (cols, rows) = terminal::size()?;
-        Ok(Size { cols: cols.into(), rows: rows.into() })
-    }
-
-    /// Shows a canvas: of a row, only what differs from what stands there.
-    pub fn show(&mut self, canvas: Canvas) -> io::Result<()> {
+    /// Shows a canvas: only what differs from what stands there.
+    fn show(&mut self, canvas: Canvas) -> io::Result<()> {
+        if self.shown.as_ref() == Some(&canvas) {
+            return Ok(());
+        }
         let shown = self.shown.take().filter(|shown| shown.size == canvas.size);
         queue!(self.out, Hide)?;
         if shown.is_none() {
@@ -83,23 +116,24 @@ impl Terminal {
         self.out.flush()
     }
 
-    /// What is pressed within this time; leaving, if the program is asked to end.
-    pub fn next(&mut self, wait: Duration) -> io::Result<Option<Input>> {
-        let something = event::poll(wait)?;
-        if self.ended.load(Ordering::Relaxed) {
-            return Ok(Some(Input::Leave));
-        }
-        if !something {
-            return Ok(None);
-        }
-        Ok(match event::read()? {
-            Event::Key(key) if key.kind != KeyEventKind::Release => pressed(key),
-            Event::Resize(..) => {
-                self.shown = None;
-                Some(Input::Redraw)
+    /// What is pressed, if something is within this time; leaving, if the program is asked to end.
+    fn inputs(&mut self, wait: Duration) -> io::Result<Vec<Input>> {
+        let (mut inputs, mut wait) = (Vec::new(), wait);
+        while inputs.len() < BATCH && event::poll(wait)? {
+            match event::read()? {
+                Event::Key(key) if key.kind != KeyEventKind::Release => inputs.extend(pressed(key)),
+                Event::Resize(cols, rows) => {
+                    self.shown = None;
+                    inputs.push(Input::Resized(Size { cols: cols.into(), rows: rows.into() }));
+                }
+                _ => {}
             }
-            _ => None,
-        })
+            wait = Duration::ZERO;
+        }
+        if self.ended.load(Ordering::Relaxed) {
+            inputs.push(Input::Leave);
+        }
+        Ok(inputs)
     }
 }
 
@@ -138,22 +172,22 @@ fn colour(nibble: u8) -> Color {
     COLOURS[nibble as usize]
 }
 
-fn pressed(KeyEvent { code, modifiers, .. }: KeyEvent) -> Option<Input> {
-    let ctrl = modifiers.contains(KeyModifiers::CONTROL);
-    Some(Input::Key(match code {
-        KeyCode::Char(c) if ctrl => return with_ctrl(c.to_ascii_lowercase()),
+/// What a key means. Alt with a character is sent as Esc and then the character, and is taken for these.
+fn pressed(KeyEvent { code, modifiers, .. }: KeyEvent) -> Vec<Input> {
+    let escape = matches!(code, KeyCode::Char(_)) && modifiers.contains(KeyModifiers::ALT);
+    let meant = if modifiers.contains(KeyModifiers::CONTROL) { with_ctrl(code) } else { plain(code).map(Input::Key) };
+    escape.then_some(Input::Key(Key::Escape)).into_iter().chain(meant).collect()
+}
+
+fn plain(code: KeyCode) -> Option<Key> {
+    Some(match code {
         KeyCode::Char(c) => Key::Char(glyphs::byte(c)?),
-        KeyCode::Enter if ctrl => Key::CtrlEnter,
         KeyCode::Enter => Key::Enter,
         KeyCode::Tab => Key::Tab,
         KeyCode::Backspace => Key::Backspace,
         KeyCode::Delete => Key::Delete,
         KeyCode::Insert => Key::Insert,
         KeyCode::Esc => Key::Escape,
-        KeyCode::Left if ctrl => Key::CtrlLeft,
-        KeyCode::Right if ctrl => Key::CtrlRight,
-        KeyCode::Home if ctrl => Key::CtrlHome,
-        KeyCode::End if ctrl => Key::CtrlEnd,
         KeyCode::Left => Key::Left,
         KeyCode::Right => Key::Right,
         KeyCode::Up => Key::Up,
@@ -162,24 +196,80 @@ fn pressed(KeyEvent { code, modifiers, .. }: KeyEvent) -> Option<Input> {
         KeyCode::End => Key::End,
         KeyCode::F(number @ 1..=10) => Key::Function(number),
         _ => return None,
-    }))
+    })
 }
 
-fn with_ctrl(letter: char) -> Option<Input> {
-    Some(match letter {
-        'j' => Input::Key(Key::CtrlEnter),
-        'h' => Input::Key(Key::Backspace),
-        'c' => Input::Key(Key::Break),
-        'e' => Input::Key(Key::CtrlEnd),
-        'a' => Input::Key(Key::Colour),
-        'k' => Input::Key(Key::Strip),
-        'w' => Input::Key(Key::Width),
-        'q' => Input::Leave,
-        'l' => Input::Loss,
-        'r' => Input::Repeat,
-        'o' => Input::Reorder,
-        'x' => Input::Cut,
-        'n' => Input::Follow,
+fn with_ctrl(code: KeyCode) -> Option<Input> {
+    Some(match code {
+        KeyCode::Enter | KeyCode::Char('j' | 'J') => Input::Key(Key::CtrlEnter),
+        KeyCode::Left => Input::Key(Key::CtrlLeft),
+        KeyCode::Right => Input::Key(Key::CtrlRight),
+        KeyCode::Home => Input::Key(Key::CtrlHome),
+        KeyCode::End | KeyCode::Char('e' | 'E') => Input::Key(Key::CtrlEnd),
+        KeyCode::Backspace | KeyCode::Char('h' | 'H') => Input::Key(Key::Backspace),
+        KeyCode::Char('c' | 'C') => Input::Key(Key::Break),
+        KeyCode::Char('a' | 'A') => Input::Key(Key::Colour),
+        KeyCode::Char('k' | 'K') => Input::Key(Key::Strip),
+        KeyCode::Char('w' | 'W') => Input::Key(Key::Width),
+        KeyCode::Char('q' | 'Q') => Input::Leave,
+        KeyCode::Char('l' | 'L') => Input::Loss,
+        KeyCode::Char('r' | 'R') => Input::Repeat,
+        KeyCode::Char('o' | 'O') => Input::Reorder,
+        KeyCode::Char('x' | 'X') => Input::Cut,
+        KeyCode::Char('n' | 'N') => Input::Follow,
         _ => return None,
     })
+}
+
+#[cfg(test)]
+mod tests {
+    use super::*;
+
+    #[test]
+    fn keys_mean_what_host_readme_says() {
+        let (none, ctrl) = (KeyModifiers::NONE, KeyModifiers::CONTROL);
+        let table = [
+            (KeyCode::Char('A'), KeyModifiers::SHIFT, Key::Char(b'A')),
+            (KeyCode::Char('ü'), none, Key::Char(129)),
+            (KeyCode::Enter, none, Key::Enter),
+            (KeyCode::Enter, ctrl, Key::CtrlEnter),
+            (KeyCode::Char('j'), ctrl, Key::CtrlEnter),
+            (KeyCode::Tab, none, Key::Tab),
+            (KeyCode::Backspace, none, Key::Backspace),
+            (KeyCode::Char('h'), ctrl, Key::Backspace),
+            (KeyCode::Delete, none, Key::Delete),
+            (KeyCode::Insert, none, Key::Insert),
+            (KeyCode::Esc, none, Key::Escape),
+            (KeyCode::Left, none, Key::Left),
+            (KeyCode::Right, none, Key::Right),
+            (KeyCode::Up, none, Key::Up),
+            (KeyCode::Down, none, Key::Down),
+            (KeyCode::Left, ctrl, Key::CtrlLeft),
+            (KeyCode::Right, ctrl, Key::CtrlRight),
+            (KeyCode::Home, none, Key::Home),
+            (KeyCode::End, none, Key::End),
+            (KeyCode::Home, ctrl, Key::CtrlHome),
+            (KeyCode::End, ctrl, Key::CtrlEnd),
+            (KeyCode::Char('e'), ctrl, Key::CtrlEnd),
+            (KeyCode::Char('c'), ctrl, Key::Break),
+            (KeyCode::F(1), none, Key::Function(1)),
+            (KeyCode::F(10), none, Key::Function(10)),
+        ];
+        for (code, modifiers, key) in table {
+            assert_eq!(pressed(KeyEvent::new(code, modifiers)), [Input::Key(key)], "{code:?} {modifiers:?}");
+        }
+        assert_eq!(pressed(KeyEvent::new(KeyCode::Char('q'), ctrl)), [Input::Leave]);
+        let alt = pressed(KeyEvent::new(KeyCode::Char('x'), KeyModifiers::ALT));
+        assert_eq!(alt, [Input::Key(Key::Escape), Input::Key(Key::Char(b'x'))]);
+        assert_eq!(pressed(KeyEvent::new(KeyCode::F(11), none)), []);
+        assert_eq!(pressed(KeyEvent::new(KeyCode::Char('€'), none)), []);
+    }
+
+    #[test]
+    fn colours_are_those_of_a_text_attribute() {
+        assert_eq!(
+            [1, 4, 6, 7, 8, 14].map(colour),
+            [Color::DarkBlue, Color::DarkRed, Color::DarkYellow, Color::Grey, Color::DarkGrey, Color::Yellow]
+        );
+    }
 }

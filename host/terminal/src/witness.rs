@@ -49,3 +49,56 @@ fn difference(mirror: &Mirror, screen: &impl Shown) -> String {
         None => "width, cursor, modes or flags are wrong".into(),
     }
 }
+
+#[cfg(test)]
+mod tests {
+    use super::*;
+    use futonrobin::{Report, Screen};
+
+    fn keys() -> Vec<Key> {
+        b"WARD 7".map(Key::Char).to_vec()
+    }
+
+    /// A mirror that has got the full report of a screen.
+    fn mirror_of(screen: &Screen) -> Mirror {
+        let mut mirror = Mirror::new(80);
+        mirror.arrive(screen.report_full()).unwrap();
+        mirror
+    }
+
+    fn typed(text: &[u8]) -> Screen {
+        let mut screen = Screen::new(80);
+        text.iter().for_each(|&ch| screen.type_char(ch).unwrap());
+        screen
+    }
+
+    #[test]
+    fn the_right_screen_is_taken() {
+        let mut witness = Witness::new(80, &keys());
+        for n in 0..=6 {
+            assert_eq!(witness.check(&mirror_of(&typed(&b"WARD 7"[..n]))), Ok(()));
+        }
+    }
+
+    #[test]
+    fn one_wrong_cell_is_seen() {
+        let told = Witness::new(80, &keys()).check(&mirror_of(&typed(b"WARD 8"))).unwrap_err();
+        assert!(told.ends_with("1 wrong cells, the first in row 0, column 5"), "{told}");
+    }
+
+    #[test]
+    fn a_wrong_cursor_is_seen() {
+        let keys = [b"BED".map(Key::Char).to_vec(), vec![Key::Left]].concat();
+        let mut screen = typed(b"BED");
+        screen.home().unwrap();
+        assert!(Witness::new(80, &keys).check(&mirror_of(&screen)).unwrap_err().contains("are wrong"));
+    }
+
+    #[test]
+    fn a_call_that_was_not_made_is_seen() {
+        let report: Report = typed(b"WARD 7!").report_step();
+        let mut mirror = mirror_of(&typed(b"WARD 7"));
+        mirror.arrive(&report).unwrap();
+        assert!(Witness::new(80, &keys()).check(&mirror).unwrap_err().contains("the keys make 6 calls"));
+    }
+}

@@ -44,8 +44,9 @@ fn addresses() {
 
 #[test]
 fn keys_and_terminals() {
-    refused("candidate --to 127.0.0.1:4000", 1, "there is no terminal to type on");
+    refused("candidate --to 127.0.0.1:4000", 1, "standard input and output are no terminal");
     refused("candidate --to 127.0.0.1:4000 --keys no-such-file", 1, "no-such-file: ");
+    refused("invigilator --listen 127.0.0.1:0", 1, "standard input and output are no terminal");
     let file = format!("{}/bad-keys-{}", env!("CARGO_TARGET_TMPDIR"), std::process::id());
     std::fs::write(&file, "A<Entr>").unwrap();
     refused(&format!("candidate --to 127.0.0.1:4000 --keys {file}"), 1, "there is no key <Entr>");

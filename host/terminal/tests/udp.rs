@@ -62,20 +62,21 @@ fn a_hundred_thousand_keys_over_a_bad_line() {
     let begun = Instant::now();
     let mut invigilator = screens(&["invigilator", "--listen", "127.0.0.1:0", "--keys", file]);
     let mut told = BufReader::new(invigilator.stdout.take().unwrap());
-    let mut first = String::new();
-    told.read_line(&mut first).unwrap();
-    let port = number_after(&first, "127.0.0.1:") as u16;
+    let mut line = || {
+        let mut line = String::new();
+        told.read_line(&mut line).unwrap();
+        line
+    };
+    let port = number_after(&line(), "127.0.0.1:") as u16;
 
     let to = format!("127.0.0.1:{port}");
     let faults = ["--loss", "30", "--repeat", "30", "--reorder", "100", "--seed", &seed.to_string()];
     let candidate = screens(&[&["candidate", "--to", &to, "--keys", file], &faults[..]].concat());
+    // Nobody else may be the first that the invigilator hears.
+    assert!(line().contains("follows run"));
     let stop = AtomicBool::new(false);
     let (candidate, disturbed) = thread::scope(|scope| {
-        let disturbing = scope.spawn(|| {
-            // Nobody else may be the first that the invigilator hears.
-            thread::sleep(Duration::from_millis(500));
-            disturb(port, &stop)
-        });
+        let disturbing = scope.spawn(|| disturb(port, &stop));
         let candidate = candidate.wait_with_output().unwrap();
         stop.store(true, Ordering::Relaxed);
         (candidate, disturbing.join().unwrap())
@@ -89,6 +90,21 @@ fn a_hundred_thousand_keys_over_a_bad_line() {
     assert!(candidate.status.success() && held, "seed {seed}\n{report}");
     assert_eq!(number_after(&report, "wrong arrivals"), 0);
     assert!(number_after(&report, "ended at call") >= KEYS as u64);
+    // The line was as bad as it was meant to be, and the network lost next to nothing beyond it.
+    let (sent, lost) = (number_after(&report, "calls,"), number_after(&report, "sent,"));
+    assert!(lost * 3 > sent && lost < sent && number_after(&report, "arrived") * 100 >= sent * 99, "{report}");
     assert!(number_after(&report, "garbage") > 0 && number_after(&report, "foreign") > 0, "{report}");
     assert!(time < AT_MOST, "{time:?}");
+}
+
+#[test]
+fn a_candidate_that_nobody_follows_says_so() {
+    let file = PathBuf::from(env!("CARGO_TARGET_TMPDIR")).join(format!("few-keys-{}", std::process::id()));
+    std::fs::write(&file, "BED 12").unwrap();
+    let silent = UdpSocket::bind("127.0.0.1:0").unwrap();
+    let to = silent.local_addr().unwrap().to_string();
+    let done = screens(&["candidate", "--to", &to, "--keys", file.to_str().unwrap()]).wait_with_output().unwrap();
+    std::fs::remove_file(file).unwrap();
+    assert_eq!(done.status.code(), Some(1));
+    assert!(String::from_utf8(done.stdout).unwrap().contains("HAS NOT TOLD THAT IT SHOWS"));
 }

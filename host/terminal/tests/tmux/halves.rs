@@ -76,7 +76,7 @@ fn the_other_keys() {
     pane.wait_for_cursor(4, 0);
     pane.write("SECOND");
     pane.press("Enter");
-    pane.wait_for("submitted 3: 30 FIRST");
+    pane.wait("one line of two rows", |shown| shown.lines.iter().any(|l| l.starts_with("submitted 3: 30 FIRST") && l.ends_with("SECOND")));
     pane.write("40 gone");
     pane.press("Escape");
     pane.wait("the line gone", |shown| !shown.has("40 gone"));
@@ -88,7 +88,8 @@ fn the_other_keys() {
     pane.press("C-a");
     pane.write("Süd ½ ß");
     wait_for_both(&pane, 3, "Süd ½ ß");
-    assert!(pane.coloured().contains("\u{1b}[38;5;11m"), "bright yellow is shown: {:?}", pane.coloured());
+    let coloured = pane.coloured();
+    assert!(coloured.contains("\u{1b}[38;5;11m30 FIRST"), "the whole line in bright yellow: {coloured:?}");
     pane.press("C-k");
     pane.wait("no key strip", |shown| !shown.has("1LIST"));
     pane.press("C-k");
@@ -146,16 +147,22 @@ fn resized() {
     pane.wait_for("The terminal is too small");
     pane.resize(COLS, ROWS);
     wait_for_both(&pane, 0, "STAYS");
-    // While it is too small nothing is typed. The other width is taken, and shows that the keys before it were.
+    // While it is too small nothing is typed; leaving works.
     pane.resize(100, 20);
     pane.wait_for("161 and 30 are needed");
     pane.write("NOT TAKEN");
-    pane.press("C-w");
-    pane.wait_for("81 and 30 are needed");
-    pane.resize(COLS, ROWS);
+    pane.press("C-w C-q");
+    pane.wait_for_end();
+}
+
+#[test]
+fn a_width_that_does_not_fit_is_not_taken() {
+    let pane = Pane::screens("narrow", 100, ROWS, "--loss 0 --repeat 0 --reorder 0");
     pane.wait_for("1LIST");
-    pane.write("TAKEN");
-    pane.wait("one word on each half", |shown| shown.rows(1, 0, 40)[0] == "TAKEN" && shown.rows(1, 41, 40)[0] == "TAKEN");
+    pane.write("KEPT");
+    pane.press("C-w");
+    pane.write("!");
+    pane.wait("both at 40 columns", |shown| shown.rows(1, 0, 40)[0] == "KEPT!" && shown.rows(1, 41, 40)[0] == "KEPT!");
 }
 
 /// What `stty -g` prints in a shell.

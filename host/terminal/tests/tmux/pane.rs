@@ -1,4 +1,6 @@
 //! A terminal of tmux with a program in it: keys go in, what is shown is read, and one waits for what should be shown.
+use std::fs;
+use std::path::PathBuf;
 use std::process::Command;
 use std::thread::sleep;
 use std::time::{Duration, Instant};
@@ -7,13 +9,15 @@ use std::time::{Duration, Instant};
 pub const DEADLINE: Duration = Duration::from_secs(60);
 
 pub struct Pane {
-    server: String,
+    /// Where the server has its socket; it goes when the test ends.
+    folder: PathBuf,
 }
 
 impl Pane {
     /// Starts a command in a terminal of this size, with a tmux server of its own.
     pub fn start(name: &str, cols: usize, rows: usize, command: &str) -> Self {
-        let pane = Self { server: format!("futonrobin-{}-{name}", std::process::id()) };
+        let pane = Self { folder: std::env::temp_dir().join(format!("futonrobin-{}-{name}", std::process::id())) };
+        fs::create_dir_all(&pane.folder).expect("a folder for the socket");
         let (cols, rows) = (cols.to_string(), rows.to_string());
         pane.tmux(&["-f", "/dev/null", "new-session", "-d", "-x", &cols, "-y", &rows, command]);
         pane
@@ -25,10 +29,25 @@ impl Pane {
     }
 
     fn tmux(&self, words: &[&str]) -> String {
-        let done = Command::new("tmux").args(["-u", "-L", &self.server]).args(words).output();
+        let done = self.server().args(words).output();
         let done = done.expect("tmux, in which these tests run the programs, is at hand (host/setup installs it)");
         assert!(done.status.success(), "tmux {words:?}: {}", String::from_utf8_lossy(&done.stderr));
         String::from_utf8(done.stdout).expect("tmux tells in UTF-8")
+    }
+
+    fn server(&self) -> Command {
+        let mut tmux = Command::new("tmux");
+        tmux.arg("-u").arg("-S").arg(self.folder.join("socket"));
+        tmux
+    }
+
+    /// Waits until the program has ended, and tmux with it.
+    pub fn wait_for_end(&self) {
+        let begun = Instant::now();
+        while self.server().arg("list-sessions").output().is_ok_and(|done| done.status.success()) {
+            assert!(begun.elapsed() < DEADLINE, "the program has not ended");
+            sleep(Duration::from_millis(20));
+        }
     }
 
     /// Keys by tmux's names: `Left`, `C-Home`, `BSpace`.
@@ -54,11 +73,11 @@ impl Pane {
         self.tmux(&["capture-pane", "-p", "-e"])
     }
 
-    /// Row and column of the terminal's cursor.
-    pub fn cursor(&self) -> (usize, usize) {
-        let place = self.tmux(&["display-message", "-p", "#{cursor_y} #{cursor_x}"]);
-        let (row, col) = place.trim().split_once(' ').expect("two numbers");
-        (row.parse().unwrap(), col.parse().unwrap())
+    /// Waits until the terminal's cursor is there, and shown.
+    pub fn wait_for_cursor(&self, row: usize, col: usize) {
+        let wanted = format!("{row} {col} 1");
+        let cursor = || self.tmux(&["display-message", "-p", "#{cursor_y} #{cursor_x} #{cursor_flag}"]);
+        self.wait(&format!("the cursor in row {row}, column {col}"), |_| cursor().trim() == wanted);
     }
 
     /// Waits until that is shown.
@@ -77,16 +96,13 @@ impl Pane {
     pub fn wait_for(&self, text: &str) -> Shown {
         self.wait(text, |shown| shown.has(text))
     }
-
-    pub fn wait_for_cursor(&self, row: usize, col: usize) {
-        self.wait(&format!("the cursor in row {row}, column {col}"), |_| self.cursor() == (row, col));
-    }
 }
 
 impl Drop for Pane {
     fn drop(&mut self) {
         // The server has ended by itself if its program has.
-        let _ = Command::new("tmux").args(["-L", &self.server, "kill-server"]).output();
+        let _ = self.server().arg("kill-server").output();
+        let _ = fs::remove_dir_all(&self.folder);
     }
 }
 

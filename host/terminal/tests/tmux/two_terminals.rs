@@ -2,9 +2,13 @@
 use crate::pane::{Pane, Shown};
 use std::net::UdpSocket;
 
-/// A port that is free now.
-fn free_port() -> u16 {
-    UdpSocket::bind("127.0.0.1:0").and_then(|socket| socket.local_addr()).unwrap().port()
+/// An invigilator on any free port, and that port, which it shows.
+fn invigilator(name: &str) -> (Pane, u16) {
+    let pane = Pane::screens(name, 80, 30, "invigilator --listen 127.0.0.1:0");
+    let port = |line: &String| line.split_once("WAITING for a candidate at 127.0.0.1:").and_then(|(_, port)| port.trim().parse().ok());
+    let shown = pane.wait("the address", |shown| shown.lines.iter().any(|line| port(line).is_some()));
+    let port = shown.lines.iter().find_map(port).unwrap();
+    (pane, port)
 }
 
 fn candidate(name: &str, port: u16) -> Pane {
@@ -19,9 +23,7 @@ fn first_row(shown: &Shown) -> &str {
 
 #[test]
 fn over_udp() {
-    let port = free_port();
-    let invigilator = Pane::screens("watching", 80, 30, &format!("invigilator --listen 127.0.0.1:{port}"));
-    invigilator.wait_for("WAITING for a candidate");
+    let (invigilator, port) = invigilator("watching");
     let first = candidate("first", port);
     first.write("40 WARD 9, BED 3");
     invigilator.wait("what is typed, and LEVEL", |shown| first_row(shown) == "40 WARD 9, BED 3" && shown.has("LEVEL"));
@@ -48,7 +50,7 @@ fn over_udp() {
 
 #[test]
 fn too_small_for_a_screen() {
-    let invigilator = Pane::screens("small", 60, 20, &format!("invigilator --listen 127.0.0.1:{}", free_port()));
+    let invigilator = Pane::screens("small", 60, 20, "invigilator --listen 127.0.0.1:0");
     invigilator.wait_for("The terminal is too small");
     invigilator.resize(80, 30);
     invigilator.wait_for("WAITING for a candidate");
