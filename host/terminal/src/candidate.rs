@@ -144,7 +144,7 @@ pub fn with_keys(to: SocketAddr, width: u32, faults: Faults, seed: u64, keys: &[
     let mut candidate = Candidate::new(to, width, faults, seed)?;
     let mut paused = 0;
     for &key in keys {
-        candidate.press(key).map_err(|refusal| io::Error::other(refusal))?;
+        candidate.press(key).map_err(io::Error::other)?;
         if candidate.sender.sent - paused >= BURST {
             paused = candidate.sender.sent;
             candidate.pass()?;
