@@ -14,10 +14,9 @@ use std::thread::sleep;
 use std::time::{Duration, Instant};
 
 const TICK: Duration = Duration::from_millis(20);
-const ROWS: usize = 25 + 4;
+/// The lines under the screen need 80 columns, whatever its width.
+const NEEDED: Size = Size { cols: 80, rows: 25 + 4 };
 const HELP: &str = "Ctrl-Q leaves, Ctrl-J joins the next row; Ctrl-A, K, W: colour, keys, width";
-/// The lines under the screen need these, whatever its width.
-const COLS: usize = 80;
 
 /// With keys from a file, so many datagrams go out before a pause, so that a receiver's buffer holds them.
 const BURST: u64 = 32;
@@ -109,8 +108,6 @@ impl Candidate {
         }
     }
 }
-
-const NEEDED: Size = Size { cols: COLS, rows: ROWS };
 
 impl Program for Candidate {
     fn tick(&mut self) -> io::Result<()> {

@@ -12,6 +12,7 @@ use std::net::{SocketAddr, UdpSocket};
 use std::thread::sleep;
 use std::time::{Duration, Instant};
 
+/// The lines under the mirror need 80 columns, whatever its width.
 const NEEDED: Size = Size { cols: 80, rows: 25 + 3 };
 const HELP: &str = "Ctrl-Q leaves, Ctrl-N follows the run heard of last";
 
