@@ -108,7 +108,6 @@ fn measure<D: Driver>(group: &mut Group, name: &str, width: u32, start: &[u8], m
 macro_rules! both {
     ($criterion:expr, $work:expr, $width:expr, $start:expr, $calls:expr) => {{
         let mut group = $criterion.benchmark_group($work);
-        group.measurement_time(Duration::from_secs(4)).warm_up_time(Duration::from_secs(1)).sample_size(60);
         measure::<Record>(&mut group, "archive", $width, $start, $calls);
         measure::<Screen>(&mut group, "rust", $width, $start, $calls);
         group.finish();
@@ -169,7 +168,7 @@ fn followed(criterion: &mut Criterion, width: u32, start: &[u8]) {
 
 fn main() {
     let results = results();
-    let mut criterion = Criterion::default().without_plots().output_directory(&results);
+    let mut criterion = measuring(&results);
     let line = [b'A'; 255];
     let listing = listing();
     memcpy(&mut criterion);
@@ -183,6 +182,18 @@ fn main() {
         followed(&mut criterion, width, &line);
     }
     table(&results);
+}
+
+/// A work is measured for four seconds, or for as many milliseconds as SPEED_MILLISECONDS says: `tools/compare-speed` measures shortly and often,
+/// in short samples, of which other work on the machine leaves some alone.
+/// Of what criterion makes of the samples only the median is used, which does not depend on the number of resamples.
+fn measuring(results: &Path) -> Criterion {
+    let (milliseconds, samples) = match std::env::var("SPEED_MILLISECONDS") {
+        Ok(number) => (number.parse().expect("SPEED_MILLISECONDS is a number"), 200),
+        Err(_) => (4_000, 60),
+    };
+    let criterion = Criterion::default().without_plots().output_directory(results).nresamples(2_000).sample_size(samples);
+    criterion.measurement_time(Duration::from_millis(milliseconds)).warm_up_time(Duration::from_millis(milliseconds / 4))
 }
 
 /// In cargo's target folder: the program itself is in target/release/deps.

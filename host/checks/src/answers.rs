@@ -15,13 +15,13 @@
 //! | 20 .. 20 + i | the input |
 //! | 20 + i .. 20 + i + t | the text |
 //!
-//! Tag 0 is `new` and begins a list, with the width as first argument. Tags 1 to 24 are the changing calls in the order of `Call`:
-//! 1 `print_bytes`, 2 `type_char`, .. 24 `set_keys_on`. Some arguments are out of range; the answer is then a refusal.
+//! Tag 0 is `new` and begins a list, with the width as first argument. The changing calls have the tags that the table in `call.rs` gives
+//! them: 1 `print_bytes`, 2 `type_char`, .. 24 `set_keys_on`. Some arguments are out of range; the answer is then a refusal.
 //!
 //! The input has at most 512 bytes. The digest is taken over this entry's bytes 0 to 15, its input, its text, and the whole record after the
 //! call, in this order. It starts at 0, and with each byte h becomes (257 h + byte) mod 2,147,483,647, which does not overflow in 64 bits. The
 //! entry's own bytes are in it so that a changed byte is seen wherever it stands, in an unused argument too.
-use crate::call::{Call, Kind};
+use crate::call::{Call, Given};
 use crate::judge;
 use crate::layout::*;
 use crate::lists::{self, List, Step};
@@ -31,6 +31,8 @@ use proptest::strategy::{Strategy, ValueTree};
 
 const FRONT: usize = 16;
 const HEAD: usize = 20;
+/// An entry has room for so many arguments that are numbers.
+const NUMBERS: usize = 2;
 pub const LONGEST_INPUT: usize = 512;
 
 /// The digest of all these bytes, one part after the other.
@@ -39,36 +41,18 @@ fn digest(parts: &[&[u8]]) -> u32 {
     parts.iter().copied().flatten().fold(0, step) as u32
 }
 
-/// The calls in the order of their tags. What an argument is here does not matter.
-fn by_tag() -> Vec<Call> {
-    crate::call::one_of_each().into_iter().filter(|call| matches!(call.kind(), Kind::New | Kind::Changing)).collect()
-}
-
-fn tag(call: &Call) -> u8 {
-    by_tag().iter().position(|other| other.name() == call.name()).expect("new and the changing calls have tags") as u8
-}
-
-fn arguments(call: &Call) -> (u32, u32) {
-    match *call {
-        Call::New(a) | Call::TypeChar(a) | Call::SetWidth(a) | Call::SetInsert(a) | Call::SetAttr(a) | Call::SetKeysOn(a) => (a, 0),
-        Call::SetCursor(a, b) => (a, b),
-        _ => (0, 0),
-    }
-}
-
 fn entry(call: &Call, answer: u32, text: &[u8], rec: &[u8]) -> Vec<u8> {
-    let (a, b) = arguments(call);
-    let input: &[u8] = if let Call::PrintBytes(bytes) = call { bytes } else { &[] };
-    assert!(input.len() <= LONGEST_INPUT && text.len() <= LINE);
-    let mut front = vec![tag(call)];
-    front.extend(a.to_be_bytes());
-    front.extend(b.to_be_bytes());
+    let Given { mut numbers, bytes: input } = call.given();
+    assert!(numbers.len() <= NUMBERS && input.len() <= LONGEST_INPUT && text.len() <= LINE);
+    numbers.resize(NUMBERS, 0);
+    let mut front = vec![call.tag().expect("new and the changing calls have tags")];
+    front.extend(numbers.iter().flat_map(|number| number.to_be_bytes()));
     front.extend((input.len() as u16).to_be_bytes());
     front.extend(answer.to_be_bytes());
     front.push(text.len() as u8);
     assert!(front.len() == FRONT);
-    let digest = digest(&[&front, input, text, rec]).to_be_bytes();
-    [&front, &digest[..], input, text].concat()
+    let digest = digest(&[&front, &input, text, rec]).to_be_bytes();
+    [&front, &digest[..], &input, text].concat()
 }
 
 /// What was recorded.
@@ -180,17 +164,8 @@ impl<'a> Entry<'a> {
     }
 
     fn call(&self) -> Result<Call, String> {
-        let (a, b) = (self.number(1), self.number(5));
-        Ok(match by_tag().get(self.0[0] as usize).ok_or("no recording: no call has this tag")? {
-            Call::New(_) => Call::New(a),
-            Call::PrintBytes(_) => Call::PrintBytes(self.0[HEAD..HEAD + self.input_length()].to_vec()),
-            Call::TypeChar(_) => Call::TypeChar(a),
-            Call::SetWidth(_) => Call::SetWidth(a),
-            Call::SetCursor(..) => Call::SetCursor(a, b),
-            Call::SetInsert(_) => Call::SetInsert(a),
-            Call::SetAttr(_) => Call::SetAttr(a),
-            Call::SetKeysOn(_) => Call::SetKeysOn(a),
-            other => other.clone(),
-        })
+        let bytes = self.0[HEAD..HEAD + self.input_length()].to_vec();
+        let given = Given { numbers: [self.number(1), self.number(5)].into(), bytes };
+        Call::with_tag(self.0[0], given).ok_or("no recording: no call has this tag".into())
     }
 }

@@ -39,7 +39,8 @@ fn accepted(call: &Call, rec: &[u8], out: &[u8]) -> Outcome {
         Kind::Reading => Outcome { answer: oracle::opened(rec).read(call), rec: rec.to_vec(), out: out.to_vec() },
         Kind::Text | Kind::Report => {
             let text = match *call {
-                Call::Report(kind) => reports::made(kind, rec),
+                Call::ReportStep => reports::made(reports::Kind::Step, rec),
+                Call::ReportFull => reports::made(reports::Kind::Full, rec),
                 _ => oracle::opened(rec).text(call),
             };
             Outcome { answer: text.len() as u32, rec: rec.to_vec(), out: over(&text, out) }

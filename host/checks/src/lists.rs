@@ -71,7 +71,7 @@ fn fragment() -> BoxedStrategy<Vec<Step>> {
     let calls = |strategy: BoxedStrategy<Vec<Call>>| strategy.prop_map(|calls| calls.into_iter().map(Step::Call).collect());
     prop_oneof![
         24 => calls(any_call().prop_map(|call| vec![call]).boxed()),
-        12 => calls(vec(one_of(&call::KEYS), 1..6).boxed()),
+        12 => calls(vec(one_of(&call::keys()), 1..6).boxed()),
         8 => calls(repeated_key().boxed()),
         8 => calls(typed().boxed()),
         12 => calls(print().prop_map(|bytes| vec![Call::PrintBytes(bytes)]).boxed()),
@@ -129,7 +129,7 @@ fn column() -> impl Strategy<Value = u32> {
 pub fn any_call() -> BoxedStrategy<Call> {
     let switch = || prop_oneof![12 => 0..2u32, 1 => any_number()];
     prop_oneof![
-        10 => one_of(&call::KEYS),
+        10 => one_of(&call::keys()),
         10 => prop_oneof![20 => character().prop_map(u32::from), 1 => any_number()].prop_map(Call::TypeChar),
         4 => print().prop_map(Call::PrintBytes),
         4 => (row(), column()).prop_map(|(row, col)| Call::SetCursor(row, col)),
@@ -154,7 +154,7 @@ fn any_question() -> BoxedStrategy<Call> {
 }
 
 fn repeated_key() -> impl Strategy<Value = Vec<Call>> {
-    (one_of(&call::KEYS), 1..30usize).prop_map(|(key, times)| vec![key; times])
+    (one_of(&call::keys()), 1..30usize).prop_map(|(key, times)| vec![key; times])
 }
 
 /// A run of one character typed, or a short mixture.

@@ -129,7 +129,8 @@ impl Game {
             return Outcome { answer, rec: self.record.clone(), out: out.to_vec() };
         }
         let text = match *call {
-            Call::Report(kind) => reports::made(kind, &self.record),
+            Call::ReportStep => reports::made(reports::Kind::Step, &self.record),
+            Call::ReportFull => reports::made(reports::Kind::Full, &self.record),
             _ if call.kind() == Kind::Changing => self.screen.change(call),
             _ if call.kind() == Kind::Text => self.screen.text(call),
             _ => return Outcome { answer: self.screen.read(call), rec: self.record.clone(), out: out.to_vec() },

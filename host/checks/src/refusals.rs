@@ -4,7 +4,7 @@ use crate::judge;
 use crate::layout::*;
 use crate::oracle::{self, TextScreen};
 use crate::random::runner;
-use crate::reports::{self, REPORT};
+use crate::reports::REPORT;
 use crate::tally::Tally;
 use crate::trial::{self, filler};
 use proptest::prelude::RngCore;
@@ -37,7 +37,7 @@ fn attempt(call: &Call, rec: &[u8], out: &[u8], tally: &mut Tally) -> Result<(),
 
 /// Each byte of a valid record set to each of its 255 other values, for one call of each kind that reads the record.
 pub fn every_byte(tally: &mut Tally) -> Result<(), String> {
-    let calls = [Call::TypeChar(b'K' as u32), Call::Width, Call::LogicalText, Call::Report(reports::Kind::Step)];
+    let calls = [Call::TypeChar(b'K' as u32), Call::Width, Call::LogicalText, Call::ReportStep];
     for width in [80, 40] {
         let mut rec = sample(width);
         for at in 0..SIZE {

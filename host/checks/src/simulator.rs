@@ -126,7 +126,7 @@ impl Session {
             let mut lent_out = Lent::new(&out);
             let bytes = reports::made(kind, &self.game.record);
             let want = Outcome { answer: bytes.len() as u32, out: judge::over(&bytes, &out), rec: self.game.record.clone() };
-            let answer = Call::Report(kind).make(self.game.lent.bytes_mut(), lent_out.bytes_mut());
+            let answer = Call::report(kind).make(self.game.lent.bytes_mut(), lent_out.bytes_mut());
             trial::compare(answer, &self.game.lent, &lent_out, &want).map_err(|difference| format!("{kind:?} report: {difference}"))?;
             counts.add("reports made", 1);
             let made = Rc::new(Made { kind, serial: serial(&self.game.record), bytes: lent_out.bytes()[..answer as usize].to_vec() });
@@ -465,9 +465,9 @@ pub fn serials_and_widths(counts: &mut Counts) -> Result<(), String> {
 }
 
 fn from_archive(kind: Kind, rec: &[u8]) -> Result<Vec<u8>, String> {
-    let want = trial::single(&Call::Report(kind), rec, &filler(REPORT, 1))?;
+    let want = trial::single(&Call::report(kind), rec, &filler(REPORT, 1))?;
     let mut out = vec![0; REPORT];
-    let length = Call::Report(kind).make(&mut rec.to_vec(), &mut out) as usize;
+    let length = Call::report(kind).make(&mut rec.to_vec(), &mut out) as usize;
     out.truncate(length);
     assert!(out == want.out[..length], "the same call answers the same");
     Ok(out)
