@@ -1,9 +1,11 @@
 // The changing calls on a lent screen record.
+use calls::lines;
 use calls::modes;
 use calls::motion;
-use calls::printing;
-use calls::texts;
+use calls::print;
+use calls::tab;
 use calls::typing;
+use calls::words;
 ghost use Rattle.editor.specs.Call.{PrintBytes, TypeChar, Backspace, DeleteChar, EraseToEnd, EscapeLine, Tab, CtrlEnter, TakeLogicalLine, BreakLine, MoveLeft, MoveRight, MoveUp, MoveDown, Home, WordLeft, WordRight, EndOfLine, Clear, SetWidth, SetCursor, SetInsert, SetAttr, SetKeysOn};
 ghost use Rattle.editor.specs.Outcome.{changing};
 ghost use Rattle.calls.specs.Answers.{Answers, Submits};
@@ -12,7 +14,7 @@ ghost use Rattle.calls.specs.Answers.{Answers, Submits};
 pub extern "C" fn screen_print_bytes(rec: &mut [u8], bytes: &[u8]) -> u32
     ensures { λ n. ⌜ Answers (changing (PrintBytes (now (bytes .entry))) (now (rec .entry))) n (now (rec .exit)) ⌝ }
 {
-    printing::print_bytes(rec, bytes)
+    print::print_bytes(rec, bytes)
 }
 
 #[no_mangle]
@@ -47,35 +49,35 @@ pub extern "C" fn screen_erase_to_end(rec: &mut [u8]) -> u32
 pub extern "C" fn screen_escape_line(rec: &mut [u8]) -> u32
     ensures { λ n. ⌜ Answers (changing EscapeLine (now (rec .entry))) n (now (rec .exit)) ⌝ }
 {
-    typing::escape_line(rec)
+    lines::escape_line(rec)
 }
 
 #[no_mangle]
 pub extern "C" fn screen_tab(rec: &mut [u8]) -> u32
     ensures { λ n. ⌜ Answers (changing Tab (now (rec .entry))) n (now (rec .exit)) ⌝ }
 {
-    typing::tab(rec)
+    tab::tab(rec)
 }
 
 #[no_mangle]
 pub extern "C" fn screen_ctrl_enter(rec: &mut [u8]) -> u32
     ensures { λ n. ⌜ Answers (changing CtrlEnter (now (rec .entry))) n (now (rec .exit)) ⌝ }
 {
-    typing::ctrl_enter(rec)
+    lines::ctrl_enter(rec)
 }
 
 #[no_mangle]
 pub extern "C" fn screen_take_logical_line(rec: &mut [u8], out: &mut [u8]) -> u32
     ensures { λ n. ⌜ Submits (changing (TakeLogicalLine (now (out .entry))) (now (rec .entry))) n (now (rec .exit)) (now (out .exit)) ⌝ }
 {
-    texts::take_logical_line(rec, out)
+    lines::take_logical_line(rec, out)
 }
 
 #[no_mangle]
 pub extern "C" fn screen_break_line(rec: &mut [u8]) -> u32
     ensures { λ n. ⌜ Answers (changing BreakLine (now (rec .entry))) n (now (rec .exit)) ⌝ }
 {
-    typing::break_line(rec)
+    lines::break_line(rec)
 }
 
 #[no_mangle]
@@ -117,14 +119,14 @@ pub extern "C" fn screen_home(rec: &mut [u8]) -> u32
 pub extern "C" fn screen_word_left(rec: &mut [u8]) -> u32
     ensures { λ n. ⌜ Answers (changing WordLeft (now (rec .entry))) n (now (rec .exit)) ⌝ }
 {
-    motion::word_left(rec)
+    words::word_left(rec)
 }
 
 #[no_mangle]
 pub extern "C" fn screen_word_right(rec: &mut [u8]) -> u32
     ensures { λ n. ⌜ Answers (changing WordRight (now (rec .entry))) n (now (rec .exit)) ⌝ }
 {
-    motion::word_right(rec)
+    words::word_right(rec)
 }
 
 #[no_mangle]

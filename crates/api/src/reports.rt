@@ -1,20 +1,21 @@
 // Reports of a lent screen record, and the lent mirror at which they arrive.
-ghost use Rattle.grid.specs.Answer.{Writes};
-ghost use Rattle.mirror.specs.Report.{Step, Full, reporting};
+ghost use Rattle.bytes.specs.Answer.{Writes};
+ghost use Rattle.report.specs.declared.kind.Kind.the-variants.{Step, Full};
+ghost use Rattle.report.specs.Report.{reporting};
 ghost use Rattle.mirror.specs.Mirror.{creatingMirror, arrival};
 
 #[no_mangle]
 pub extern "C" fn report_step(rec: &[u8], out: &mut [u8]) -> u32
     ensures { λ n. ⌜ Writes (reporting Step (now (rec .entry)) (now (out .entry))) n (now (out .exit)) ⌝ }
 {
-    mirror::report::report_step(rec, out)
+    report::report::report_step(rec, out)
 }
 
 #[no_mangle]
 pub extern "C" fn report_full(rec: &[u8], out: &mut [u8]) -> u32
     ensures { λ n. ⌜ Writes (reporting Full (now (rec .entry)) (now (out .entry))) n (now (out .exit)) ⌝ }
 {
-    mirror::report::report_full(rec, out)
+    report::report::report_full(rec, out)
 }
 
 #[no_mangle]

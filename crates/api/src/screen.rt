@@ -1,10 +1,10 @@
 // New screen, and the reading and text calls on a lent screen record.
 use calls::fresh;
-use calls::reading;
-use calls::texts;
+use queries::reading;
+use queries::text;
 ghost use mathlib.Core.Path.{_≡_};
 ghost use Rattle.editor.specs.Outcome.{creating, asking, texting, AskWidth, AskCursor, AskAttr, AskEditableRows, AskCell, AskContinues, LogicalText, Snapshot};
-ghost use Rattle.grid.specs.Answer.{Writes};
+ghost use Rattle.bytes.specs.Answer.{Writes};
 
 #[no_mangle]
 pub extern "C" fn screen_new(rec: &mut [u8], width: u32) -> u32
@@ -59,12 +59,12 @@ pub extern "C" fn screen_continues(rec: &[u8], row: u32) -> u32
 pub extern "C" fn screen_logical_text(rec: &[u8], out: &mut [u8]) -> u32
     ensures { λ n. ⌜ Writes (texting LogicalText (now (rec .entry)) (now (out .entry))) n (now (out .exit)) ⌝ }
 {
-    texts::logical_text(rec, out)
+    text::logical_text(rec, out)
 }
 
 #[no_mangle]
 pub extern "C" fn screen_snapshot(rec: &[u8], out: &mut [u8]) -> u32
     ensures { λ n. ⌜ Writes (texting Snapshot (now (rec .entry)) (now (out .entry))) n (now (out .exit)) ⌝ }
 {
-    texts::snapshot(rec, out)
+    text::snapshot(rec, out)
 }

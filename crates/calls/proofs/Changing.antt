@@ -4,50 +4,63 @@
 use Prim.Native.Nat.{ℕ, _+_, _≤_}
 use mathlib.Core.Path.{_≡_, refl, sym, ap, ap₂, _∙_, subst}
 use mathlib.Core.Bool.{Bool, true}
-use mathlib.Core.List.{List, _++_}
+use mathlib.Core.List.{List, [], _∷_, _++_}
 use native.Mathlib.Omega.{arith}
-use lib.Dec.{leb}
+use lib.Dec.{leb, eqb}
 use lib.ListN.{length, drop}
 use mir.Syntax.{w8}
 use mir.Val.{Fits}
 use borrow.Author.Tests.{eq-eqb, ne-eqb, leb-true}
-use Rattle.grid.specs.Choice.{if_then_else_}
-use Rattle.grid.specs.Answer.{refused, over}
+use Rattle.bytes.specs.Choice.{if_then_else_}
+use Rattle.bytes.specs.Answer.{over}
+use Rattle.bytes.specs.Width.{widthb}
+use Rattle.bytes.specs.Refusals.{firstOf, refusedWith, orElse}
+use Rattle.bytes.proofs.WidthLaws.{width-cases, width-to}
+use Rattle.bytes.proofs.Found.{else-none, refused-none, refusal-some, refusal-number}
+use Rattle.bytes.proofs.Bools.{pick, skip}
 use Rattle.grid.specs.Layout.{SIZE, FLAGS}
-use Rattle.grid.specs.Screen.{widthb, touchedRows}
-use Rattle.grid.specs.Record.{rowsOf, screenOf, serialOf, readState, stateBytes, frontBytes, Leaves, Moves}
+use Rattle.grid.specs.Screen.{touchedRows}
+use Rattle.grid.specs.Record.{rowsOf, screenOf, serialOf, stampOf, readState, stateBytes, frontBytes, Leaves, Moves}
 use Rattle.grid.specs.Facts.{HeadFits, Valid}
 use Rattle.grid.specs.declared.head.Head.{Head}
-use Rattle.grid.proofs.Validity.{width-cases, width-to, head-fits}
+use Rattle.grid.specs.Refusals.{recordTests}
+use Rattle.grid.proofs.Validity.{head-fits}
 use Rattle.grid.proofs.Record.{left-bytes}
-use Rattle.grid.proofs.Differing.{touched-none}
-use Rattle.editor.specs.Call.{Call, SetWidth, rule, output, roomy, inRange, apply, submitted, step}
-use Rattle.editor.specs.Outcome.{refusal, changeRefusal, changing, LAST-SERIAL}
+use Rattle.grid.proofs.TouchedLaws.{touched-none}
+use Rattle.grid.proofs.RefusalLaws.{Taken, taken}
+use Rattle.editor.specs.Call.{Call, SetWidth, rule, output, lengths, own, apply, submitted, answer, step}
+use Rattle.editor.specs.Outcome.{serialTests, changeTests, changing, LAST-SERIAL}
 use Rattle.editor.specs.Given.{Copied, Ends}
 use Rattle.editor.proofs.KeptCall.{apply-facts}
-use Rattle.calls.specs.Answers.{Answers, refusedWith, spent}
-use Rattle.calls.proofs.Refusing.{Going, none-refused, going}
+use Rattle.editor.proofs.Refusals.{going}
+use Rattle.calls.specs.Answers.{Answers, changeAnswer}
+use Rattle.calls.proofs.RefusalLaws.{tests-answer, tested-own}
 
--- ---- what is so of an accepted call; long and ok as in `change_refused`
+-- ---- what is so of an accepted call: long and o are what `change_refused` was given
 
-module _ (long ok : Bool) (l : List ℕ) (k : ℕ) (is : k ≡ refusedWith (spent (refusal long ok l) l)) (zero : k ≡ 0) where
-  facts : Going long ok l
-  facts = going long ok l (sym is ∙ zero)
+module _ (long : Bool) (l : List ℕ) (o k : ℕ) (is : k ≡ changeAnswer long o l) (zero : k ≡ 0) where
+  parts : (refusedWith (firstOf (recordTests long l)) ≡ 0) × (orElse o (refusedWith (firstOf (serialTests l))) ≡ 0)
+  unfolding changeAnswer
+  parts = else-none _ _ (sym is ∙ zero)
+
+  facts : Taken long l
+  facts = taken long l (parts .0)
 
   pub call-size : length l ≡ SIZE
-  call-size = facts .start .size
+  call-size = facts .size
 
   pub call-valid : Valid l
-  call-valid = facts .start .valid
+  call-valid = facts .valid
 
-  pub call-room : long ≡ true
-  call-room = facts .start .room
-
-  pub call-range : ok ≡ true
-  call-range = facts .start .in-range
+  pub call-lengths : long ≡ true
+  call-lengths = facts .lengths-taken
 
   pub call-serial : serialOf l ≡ LAST-SERIAL → ⊥
-  call-serial = facts .serial
+  unfolding serialTests firstOf if_then_else_
+  call-serial q =
+      let none : refusedWith (firstOf (serialTests l)) ≡ 0 = else-none o _ (parts .1) .1 in
+      let four = refused-none 4 (rw (eq-eqb (serialOf l) LAST-SERIAL q) at none) in
+      omega (arith, four)
 
   module _ (old : List ℕ) (copy : old ≡ l) where
     pub copy-size : length old ≡ SIZE
@@ -69,65 +82,61 @@ byte-fits v e = record { fits = omega (arith, leb-true v 255 e) }
 pub switch-fits : (v : ℕ) → leb v 1 ≡ true → Fits w8 v
 switch-fits v e = record { fits = omega (arith, leb-true v 1 e) }
 
-pub switch-small : (v : ℕ) → leb v 1 ≡ true → v ≤ 1
-switch-small v e = leb-true v 1 e
-
 pub width-small : (w : ℕ) (t : Bool) → t ≡ widthb w → t ≡ true → w ≤ 80
 width-small w t is y = width-to w (width-cases w (sym is ∙ y))
 
--- ---- the call c
+-- ---- the call c: o is what its own refusals answer
 
-module _ (c : Call) (l : List ℕ) (k : ℕ) (is : k ≡ refusedWith (spent (refusal (roomy c) (inRange c) l) l)) where
-  first : ℕ
-  first = spent (refusal (roomy c) (inRange c) l) l
-
-  first-is : changeRefusal c l ≡ first
-  unfolding changeRefusal spent first
-  first-is = refl
+module _ (c : Call) (l : List ℕ) (o k : ℕ) (io : o ≡ refusedWith (firstOf (own c (screenOf l)))) (is : k ≡ changeAnswer (lengths c) o l) where
+  first-is : k ≡ refusedWith (firstOf (changeTests c l))
+  first-is = is ∙ tests-answer c l o io
 
   pub outcome-refused : (k ≡ 0 → ⊥) → changing c l ≡ record { number = k; rec = l; out = output c }
-  unfolding changing if_then_else_ refusedWith first
+  unfolding changing
   outcome-refused ne =
-      let some : first ≡ 0 → ⊥ = λ q. ne (is ∙ ap refusedWith q) in
-      let e : k ≡ refused first = is ∙ rw (ne-eqb first 0 some) in
-      rw (first-is, ne-eqb first 0 some, e)
+      let first : ℕ = firstOf (changeTests c l) in
+      skip (eqb first 0) _ _ (ne-eqb first 0 (refusal-some first k first-is ne))
+      ∙ ap (λ (n : ℕ). record { number = n; rec = l; out = output c }) (sym (refusal-number first k first-is ne))
+
+  none : k ≡ 0 → firstOf (changeTests c l) ≡ 0
+  none zero = refused-none _ (sym first-is ∙ zero)
 
   pub outcome-done : k ≡ 0
-      → changing c l ≡ record { number = length (submitted c (screenOf l)); rec = stateBytes (step c (readState l)); out = over (submitted c (screenOf l)) (output c) }
-  unfolding changing if_then_else_ first
-  outcome-done zero = rw (first-is, eq-eqb first 0 (none-refused first (sym is ∙ zero)))
+      → changing c l ≡ record { number = answer c (screenOf l); rec = stateBytes (step c (readState l)); out = over (submitted c (screenOf l)) (output c) }
+  unfolding changing
+  outcome-done zero = pick (eqb (firstOf (changeTests c l)) 0) _ _ (eq-eqb _ 0 (none zero))
 
   pub call-refused : (k ≡ 0 → ⊥) → Answers (changing c l) k l
   call-refused ne = rw (outcome-refused ne) (record { number = refl; left = refl })
 
   module _ (zero : k ≡ 0) where
     -- the state that the call leaves, from its rows and its head
-    pub state-left : (h : Head) (m n : List ℕ) (touched : ℕ) → rowsOf m ≡ apply c (screenOf l) .rows → length m ≡ SIZE → h ≡ apply c (screenOf l) .head
-        → touched ≡ touchedRows (rowsOf l) (apply c (screenOf l) .rows) → n ≡ frontBytes h (serialOf l + 1) touched ++ drop FLAGS m
+    state-left : (h : Head) (m n : List ℕ) (touched : ℕ) → rowsOf m ≡ apply c (screenOf l) .rows → length m ≡ SIZE → h ≡ apply c (screenOf l) .head
+        → touched ≡ touchedRows (rowsOf l) (apply c (screenOf l) .rows) → n ≡ frontBytes h (record { serial = serialOf l + 1; touched = touched }) ++ drop FLAGS m
         → n ≡ stateBytes (step c (readState l))
-    unfolding step readState
+    unfolding step readState stampOf
     state-left h m n touched rows size head et e =
-        left-bytes m n h (apply c (screenOf l) .rows) (serialOf l + 1) touched size rows e
-        ∙ ap₂ (λ (g : Head) (u : ℕ). stateBytes (record { screen = record { head = g; rows = apply c (screenOf l) .rows }; serial = serialOf l + 1; touched = u })) head et
+        left-bytes m n h (apply c (screenOf l) .rows) (record { serial = serialOf l + 1; touched = touched }) size rows e
+        ∙ ap₂ (λ (g : Head) (u : ℕ). stateBytes (record { screen = record { head = g; rows = apply c (screenOf l) .rows }; stamp = record { serial = serialOf l + 1; touched = u } })) head et
 
-    pub head-kept : (h : Head) → h ≡ apply c (screenOf l) .head → HeadFits h
+    head-kept : (h : Head) → h ≡ apply c (screenOf l) .head → HeadFits h
     head-kept h e =
-        let f = going (roomy c) (inRange c) l (sym is ∙ zero) in
-        subst HeadFits (sym e) (head-fits _ (apply-facts c (screenOf l) (f .start .in-range) (f .start .valid .screen) .head))
+        let f = going c l (none zero) in
+        subst HeadFits (sym e) (head-fits _ (apply-facts c (screenOf l) (f .in-range) (f .start .valid .screen) .head))
 
     -- a call that changes rows
     module _ (old m : List ℕ) (copy : old ≡ l) (h : Head) (left : Leaves (apply c (screenOf l)) l m h) where
       pub leaves-fits : HeadFits h
       leaves-fits = head-kept h (left .head)
 
-      pub leaves-state : (n : List ℕ) → n ≡ frontBytes h (serialOf old + 1) (touchedRows (rowsOf old) (rowsOf m)) ++ drop FLAGS m
+      pub leaves-state : (n : List ℕ) → n ≡ frontBytes h (record { serial = serialOf old + 1; touched = touchedRows (rowsOf old) (rowsOf m) }) ++ drop FLAGS m
           → n ≡ stateBytes (step c (readState l))
       leaves-state n e =
           state-left h m n (touchedRows (rowsOf l) (rowsOf m)) (left .becomes .rows) (left .becomes .size) (left .head)
           (ap (touchedRows (rowsOf l)) (left .becomes .rows)) (rw copy at e)
 
-      pub call-done : (n : List ℕ) (v : ℕ) → v ≡ length (submitted c (screenOf l))
-          → n ≡ frontBytes h (serialOf old + 1) (touchedRows (rowsOf old) (rowsOf m)) ++ drop FLAGS m → Answers (changing c l) v n
+      pub call-done : (n : List ℕ) (v : ℕ) → v ≡ answer c (screenOf l)
+          → n ≡ frontBytes h (record { serial = serialOf old + 1; touched = touchedRows (rowsOf old) (rowsOf m) }) ++ drop FLAGS m → Answers (changing c l) v n
       call-done n v ev e = rw (outcome-done zero) (record { number = ev; left = leaves-state n e })
 
     -- a call whose work reads the copy
@@ -138,8 +147,8 @@ module _ (c : Call) (l : List ℕ) (k : ℕ) (is : k ≡ refusedWith (spent (ref
       pub copied-fits : HeadFits h
       copied-fits = leaves-fits old m copy h here
 
-      pub copied-done : (n : List ℕ) (v : ℕ) → v ≡ length (submitted c (screenOf l))
-          → n ≡ frontBytes h (serialOf old + 1) (touchedRows (rowsOf old) (rowsOf m)) ++ drop FLAGS m → Answers (changing c l) v n
+      pub copied-done : (n : List ℕ) (v : ℕ) → v ≡ answer c (screenOf l)
+          → n ≡ frontBytes h (record { serial = serialOf old + 1; touched = touchedRows (rowsOf old) (rowsOf m) }) ++ drop FLAGS m → Answers (changing c l) v n
       copied-done n v ev e = call-done old m copy h here n v ev e
 
     -- `tab`, which also writes heads on the way
@@ -147,8 +156,8 @@ module _ (c : Call) (l : List ℕ) (k : ℕ) (is : k ≡ refusedWith (spent (ref
       pub ends-fits : HeadFits h
       ends-fits = head-kept h (ends .head)
 
-      pub ends-done : (n : List ℕ) (v : ℕ) → v ≡ length (submitted c (screenOf l))
-          → n ≡ frontBytes h (serialOf old + 1) (touchedRows (rowsOf old) (rowsOf m)) ++ drop FLAGS m → Answers (changing c l) v n
+      pub ends-done : (n : List ℕ) (v : ℕ) → v ≡ answer c (screenOf l)
+          → n ≡ frontBytes h (record { serial = serialOf old + 1; touched = touchedRows (rowsOf old) (rowsOf m) }) ++ drop FLAGS m → Answers (changing c l) v n
       ends-done n v ev e =
           rw (outcome-done zero)
           (record {
@@ -163,10 +172,10 @@ module _ (c : Call) (l : List ℕ) (k : ℕ) (is : k ≡ refusedWith (spent (ref
       pub moves-fits : HeadFits h
       moves-fits = head-kept h (moves .head)
 
-      pub move-done : (n : List ℕ) (v : ℕ) → v ≡ length (submitted c (screenOf l)) → n ≡ frontBytes h (serialOf l + 1) 0 ++ drop FLAGS l
+      pub move-done : (n : List ℕ) (v : ℕ) → v ≡ answer c (screenOf l) → n ≡ frontBytes h (record { serial = serialOf l + 1; touched = 0 }) ++ drop FLAGS l
           → Answers (changing c l) v n
       move-done n v ev e =
-          let f = going (roomy c) (inRange c) l (sym is ∙ zero) in
+          let f = going c l (none zero) in
           rw (outcome-done zero)
           (record {
             number = ev;
@@ -175,21 +184,8 @@ module _ (c : Call) (l : List ℕ) (k : ℕ) (is : k ≡ refusedWith (spent (ref
                 (sym (ap (touchedRows (rowsOf l)) (moves .rows) ∙ touched-none (rowsOf l))) e;
           })
 
--- ---- `set_width`: t is what the test of the width has answered
-
-module _ (w : ℕ) (t : Bool) (it : t ≡ widthb w) (l : List ℕ) (k : ℕ) (is : k ≡ refusedWith (spent (refusal true t l) l)) where
-  is′ : k ≡ refusedWith (spent (refusal (roomy (SetWidth w)) (inRange (SetWidth w)) l) l)
-  unfolding roomy inRange rule
-  is′ = is ∙ ap (λ (b : Bool). refusedWith (spent (refusal true b l) l)) it
-
-  pub set-width-refused : (k ≡ 0 → ⊥) → Answers (changing (SetWidth w) l) k l
-  set-width-refused ne = call-refused (SetWidth w) l k is′ ne
-
-  module _ (zero : k ≡ 0) (old m : List ℕ) (copy : old ≡ l) (h : Head) (left : Leaves (apply (SetWidth w) (screenOf l)) l m h) where
-    pub set-width-fits : HeadFits h
-    set-width-fits = leaves-fits (SetWidth w) l k is′ zero old m copy h left
-
-    pub set-width-done : (n : List ℕ) → n ≡ frontBytes h (serialOf old + 1) (touchedRows (rowsOf old) (rowsOf m)) ++ drop FLAGS m
-        → Answers (changing (SetWidth w) l) 0 n
-    unfolding submitted rule
-    set-width-done n e = call-done (SetWidth w) l k is′ zero old m copy h left n 0 refl e
+-- `set_width`, whose argument a function of its own has tested: t is what that has answered
+pub set-width-fits : (w : ℕ) (t : Bool) (l : List ℕ) (o k : ℕ) → t ≡ widthb w → o ≡ refusedWith (firstOf ((3, t) ∷ [])) → k ≡ changeAnswer true o l → k ≡ 0
+    → (m : List ℕ) (h : Head) → Leaves (apply (SetWidth w) (screenOf l)) l m h → HeadFits h
+unfolding lengths own rule
+set-width-fits w t l o k it io is zero m h left = head-kept (SetWidth w) l o k (tested-own (widthb w) t o it io) is zero h (left .head)

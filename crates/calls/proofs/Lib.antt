@@ -1,6 +1,6 @@
--- The laws that the proofs of `calls` cite.
-pub mod Refusing
-pub mod Asking
-pub mod Finishing
+-- The laws of the calls on a lent record.
+pub mod RefusalLaws
+pub mod FinishLaws
 pub mod Changing
-pub mod Texting
+pub mod FreshLaws
+pub mod LinesLaws

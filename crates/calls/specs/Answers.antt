@@ -1,15 +1,12 @@
 -- How a contract says that a call answers and leaves what its definition gives: the number n, and the lent slices at exit.
 -- Assumes nothing.
-use Prim.Native.Nat.{ℕ, _+_, _*_, _≤_}
+use Prim.Native.Nat.{ℕ}
 use mathlib.Core.Path.{_≡_}
-use mathlib.Core.Bool.{_&&_}
+use mathlib.Core.Bool.{Bool}
 use mathlib.Core.List.{List}
-use lib.Dec.{eqb}
-use lib.ListN.{getD}
-use Rattle.grid.specs.Choice.{if_then_else_}
-use Rattle.grid.specs.Answer.{refused}
-use Rattle.grid.specs.Record.{rowOf, headOf, serialOf}
-use Rattle.editor.specs.Outcome.{Outcome, LAST-SERIAL}
+use Rattle.bytes.specs.Refusals.{firstOf, refusedWith, orElse}
+use Rattle.grid.specs.Refusals.{recordTests}
+use Rattle.editor.specs.Outcome.{Outcome, serialTests}
 
 -- a changing call that lends a record alone
 pub record Answers (o : Outcome) (n : ℕ) (rec : List ℕ) : Type 0 where
@@ -22,20 +19,7 @@ pub record Submits (o : Outcome) (n : ℕ) (rec out : List ℕ) : Type 0 where
   pub left : rec ≡ o .rec
   pub output : out ≡ o .out
 
--- ---- what the code computes on the way: the width and a cell of a record
+-- ---- what `change_refused` answers: for the record's sake, else what the call's own refusals answer, else for the serial's sake
 
-pub record WidthIs (l : List ℕ) (w : ℕ) : Type 0 where
-  pub is : w ≡ headOf l .width
-  pub most : w ≤ 80
-
-unfoldable pub cellOf : List ℕ → ℕ → ℕ → ℕ
-cellOf l r c = getD (rowOf l r .chars) c 0 + 256 * getD (rowOf l r .attrs) c 0
-
--- ---- the number of refusal k, and 0 where k is 0
-
-unfoldable pub refusedWith : ℕ → ℕ
-refusedWith k = if eqb k 0 then 0 else refused k
-
--- refusal 4 comes after the others
-unfoldable pub spent : ℕ → List ℕ → ℕ
-spent k l = if eqb k 0 && eqb (serialOf l) LAST-SERIAL then 4 else k
+unfoldable pub changeAnswer : Bool → ℕ → List ℕ → ℕ
+changeAnswer lengths own l = orElse (refusedWith (firstOf (recordTests lengths l))) (orElse own (refusedWith (firstOf (serialTests l))))

@@ -13,18 +13,26 @@ ghost use Rattle.editor.specs.Outcome.{LAST-SERIAL};
 // Writes the head h, the next serial and the rows that differ from the record's copy old.
 pub fn finish(rec: &mut [u8], old: &[u8], h: head::Head)
     requires { ⌜ (length (now rec) ≡ SIZE) × (length (now old) ≡ SIZE) × HeadFits h × (serialOf (now old) ≡ LAST-SERIAL → ⊥) ⌝ }
-    ensures { λ _. ⌜ now (rec .exit) ≡ frontBytes h (serialOf (now (old .entry)) + 1) (touchedRows (rowsOf (now (old .entry))) (rowsOf (now (rec .entry)))) ++ drop FLAGS (now (rec .entry)) ⌝ }
+    ensures { λ _. ⌜ now (rec .exit) ≡ frontBytes h (record { serial = serialOf (now (old .entry)) + 1; touched = touchedRows (rowsOf (now (old .entry))) (rowsOf (now (rec .entry))) }) ++ drop FLAGS (now (rec .entry)) ⌝ }
 {
     let touched = grid::touched::changed_rows(old, rec);
-    let serial = head::read_serial(old);
-    head::write_front(rec, h, serial + 1, touched);
+    let next = head::read_serial(old) + 1;
+    let stamp = head::Stamp {
+        serial: next,
+        touched: touched,
+    };
+    head::write_front(rec, h, stamp);
 }
 
 // The same where no row has changed: nothing is touched.
 pub fn finish_move(rec: &mut [u8], h: head::Head)
     requires { ⌜ (length (now rec) ≡ SIZE) × HeadFits h × (serialOf (now rec) ≡ LAST-SERIAL → ⊥) ⌝ }
-    ensures { λ _. ⌜ now (rec .exit) ≡ frontBytes h (serialOf (now (rec .entry)) + 1) 0 ++ drop FLAGS (now (rec .entry)) ⌝ }
+    ensures { λ _. ⌜ now (rec .exit) ≡ frontBytes h (record { serial = serialOf (now (rec .entry)) + 1; touched = 0 }) ++ drop FLAGS (now (rec .entry)) ⌝ }
 {
-    let serial = head::read_serial(rec);
-    head::write_front(rec, h, serial + 1, 0);
+    let next = head::read_serial(rec) + 1;
+    let stamp = head::Stamp {
+        serial: next,
+        touched: 0,
+    };
+    head::write_front(rec, h, stamp);
 }

@@ -1,8 +1,8 @@
 // New screen.
-use grid::answer::REFUSED;
+use bytes::answer::REFUSED;
 use grid::layout::SIZE;
 ghost use Rattle.editor.specs.Outcome.{creating};
-ghost use Rattle.grid.specs.Answer.{Writes};
+ghost use Rattle.bytes.specs.Answer.{Writes};
 
 // Takes any width and does not read the old bytes.
 pub fn new_screen(rec: &mut [u8], width: u32) -> u32

@@ -2,10 +2,10 @@
 use crate::finish::finish;
 use crate::finish::finish_move;
 use crate::refusal::change_refused;
-use editor::modes;
+use bytes::width::width_ok;
+use grid::refusal::range_refused;
 use grid::row;
-ghost use mathlib.Core.Path.{_≡_};
-ghost use Rattle.grid.specs.Screen.{widthb};
+use moves::modes;
 ghost use Rattle.editor.specs.Call.{Clear, SetWidth, SetInsert, SetAttr, SetKeysOn};
 ghost use Rattle.editor.specs.Outcome.{changing};
 ghost use Rattle.calls.specs.Answers.{Answers};
@@ -13,30 +13,24 @@ ghost use Rattle.calls.specs.Answers.{Answers};
 pub fn clear(rec: &mut [u8]) -> u32
     ensures { λ n. ⌜ Answers (changing Clear (now (rec .entry))) n (now (rec .exit)) ⌝ }
 {
-    let n = change_refused(rec, true, true);
+    let n = change_refused(rec, true, 0);
     if n != 0 {
         return n;
     }
-    let old = row::snapshot(rec);
+    let old = row::copy_of(rec);
     let h = modes::clear(rec);
     finish(rec, &old, h);
     0
 }
 
-fn width_in_range(width: u32) -> bool
-    ensures { λ t. ⌜ t ≡ widthb width ⌝ }
-{
-    width == 40 || width == 80
-}
-
 pub fn set_width(rec: &mut [u8], width: u32) -> u32
     ensures { λ n. ⌜ Answers (changing (SetWidth width) (now (rec .entry))) n (now (rec .exit)) ⌝ }
 {
-    let n = change_refused(rec, true, width_in_range(width));
+    let n = change_refused(rec, true, range_refused(width_ok(width as usize)));
     if n != 0 {
         return n;
     }
-    let old = row::snapshot(rec);
+    let old = row::copy_of(rec);
     let h = modes::set_width(rec, width);
     finish(rec, &old, h);
     0
@@ -45,7 +39,7 @@ pub fn set_width(rec: &mut [u8], width: u32) -> u32
 pub fn set_insert(rec: &mut [u8], on: u32) -> u32
     ensures { λ n. ⌜ Answers (changing (SetInsert on) (now (rec .entry))) n (now (rec .exit)) ⌝ }
 {
-    let n = change_refused(rec, true, on <= 1);
+    let n = change_refused(rec, true, range_refused(on <= 1));
     if n != 0 {
         return n;
     }
@@ -57,7 +51,7 @@ pub fn set_insert(rec: &mut [u8], on: u32) -> u32
 pub fn set_attr(rec: &mut [u8], attr: u32) -> u32
     ensures { λ n. ⌜ Answers (changing (SetAttr attr) (now (rec .entry))) n (now (rec .exit)) ⌝ }
 {
-    let n = change_refused(rec, true, attr <= 255);
+    let n = change_refused(rec, true, range_refused(attr <= 255));
     if n != 0 {
         return n;
     }
@@ -69,7 +63,7 @@ pub fn set_attr(rec: &mut [u8], attr: u32) -> u32
 pub fn set_keys_on(rec: &mut [u8], on: u32) -> u32
     ensures { λ n. ⌜ Answers (changing (SetKeysOn on) (now (rec .entry))) n (now (rec .exit)) ⌝ }
 {
-    let n = change_refused(rec, true, on <= 1);
+    let n = change_refused(rec, true, range_refused(on <= 1));
     if n != 0 {
         return n;
     }

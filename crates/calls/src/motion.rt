@@ -1,17 +1,15 @@
 // Document 01, "Motion, modes": the moves. A move touches no row, so it needs no copy of the record.
 use crate::finish::finish_move;
 use crate::refusal::change_refused;
-use editor::lines;
-use editor::motion;
-use editor::words;
-ghost use Rattle.editor.specs.Call.{MoveLeft, MoveRight, MoveUp, MoveDown, Home, WordLeft, WordRight, EndOfLine, SetCursor};
+use moves::motion;
+ghost use Rattle.editor.specs.Call.{MoveLeft, MoveRight, MoveUp, MoveDown, Home, EndOfLine, SetCursor};
 ghost use Rattle.editor.specs.Outcome.{changing};
 ghost use Rattle.calls.specs.Answers.{Answers};
 
 pub fn move_left(rec: &mut [u8]) -> u32
     ensures { λ n. ⌜ Answers (changing MoveLeft (now (rec .entry))) n (now (rec .exit)) ⌝ }
 {
-    let n = change_refused(rec, true, true);
+    let n = change_refused(rec, true, 0);
     if n != 0 {
         return n;
     }
@@ -23,7 +21,7 @@ pub fn move_left(rec: &mut [u8]) -> u32
 pub fn move_right(rec: &mut [u8]) -> u32
     ensures { λ n. ⌜ Answers (changing MoveRight (now (rec .entry))) n (now (rec .exit)) ⌝ }
 {
-    let n = change_refused(rec, true, true);
+    let n = change_refused(rec, true, 0);
     if n != 0 {
         return n;
     }
@@ -35,7 +33,7 @@ pub fn move_right(rec: &mut [u8]) -> u32
 pub fn move_up(rec: &mut [u8]) -> u32
     ensures { λ n. ⌜ Answers (changing MoveUp (now (rec .entry))) n (now (rec .exit)) ⌝ }
 {
-    let n = change_refused(rec, true, true);
+    let n = change_refused(rec, true, 0);
     if n != 0 {
         return n;
     }
@@ -47,7 +45,7 @@ pub fn move_up(rec: &mut [u8]) -> u32
 pub fn move_down(rec: &mut [u8]) -> u32
     ensures { λ n. ⌜ Answers (changing MoveDown (now (rec .entry))) n (now (rec .exit)) ⌝ }
 {
-    let n = change_refused(rec, true, true);
+    let n = change_refused(rec, true, 0);
     if n != 0 {
         return n;
     }
@@ -59,7 +57,7 @@ pub fn move_down(rec: &mut [u8]) -> u32
 pub fn home(rec: &mut [u8]) -> u32
     ensures { λ n. ⌜ Answers (changing Home (now (rec .entry))) n (now (rec .exit)) ⌝ }
 {
-    let n = change_refused(rec, true, true);
+    let n = change_refused(rec, true, 0);
     if n != 0 {
         return n;
     }
@@ -68,38 +66,14 @@ pub fn home(rec: &mut [u8]) -> u32
     0
 }
 
-pub fn word_left(rec: &mut [u8]) -> u32
-    ensures { λ n. ⌜ Answers (changing WordLeft (now (rec .entry))) n (now (rec .exit)) ⌝ }
-{
-    let n = change_refused(rec, true, true);
-    if n != 0 {
-        return n;
-    }
-    let h = words::word_left(rec);
-    finish_move(rec, h);
-    0
-}
-
-pub fn word_right(rec: &mut [u8]) -> u32
-    ensures { λ n. ⌜ Answers (changing WordRight (now (rec .entry))) n (now (rec .exit)) ⌝ }
-{
-    let n = change_refused(rec, true, true);
-    if n != 0 {
-        return n;
-    }
-    let h = words::word_right(rec);
-    finish_move(rec, h);
-    0
-}
-
 pub fn end_of_line(rec: &mut [u8]) -> u32
     ensures { λ n. ⌜ Answers (changing EndOfLine (now (rec .entry))) n (now (rec .exit)) ⌝ }
 {
-    let n = change_refused(rec, true, true);
+    let n = change_refused(rec, true, 0);
     if n != 0 {
         return n;
     }
-    let h = lines::end_of_line(rec);
+    let h = motion::end_of_line(rec);
     finish_move(rec, h);
     0
 }
@@ -108,7 +82,7 @@ pub fn end_of_line(rec: &mut [u8]) -> u32
 pub fn set_cursor(rec: &mut [u8], row: u32, col: u32) -> u32
     ensures { λ n. ⌜ Answers (changing (SetCursor row col) (now (rec .entry))) n (now (rec .exit)) ⌝ }
 {
-    let n = change_refused(rec, true, true);
+    let n = change_refused(rec, true, 0);
     if n != 0 {
         return n;
     }

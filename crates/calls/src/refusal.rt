@@ -1,38 +1,22 @@
-// The refusals that the calls on a screen record share.
-use grid::answer::REFUSED;
-use grid::layout::SIZE;
+// The refusals of changing calls, beside those that all calls on a record share.
+use bytes::answer::REFUSED;
+use grid::refusal::record_refused;
 ghost use mathlib.Core.Path.{_≡_};
-ghost use Rattle.editor.specs.Outcome.{refusal};
-ghost use Rattle.calls.specs.Answers.{refusedWith, spent};
+ghost use Rattle.calls.specs.Answers.{changeAnswer};
 
 const LAST_SERIAL: u32 = 4294967295;
 
-// What the call answers if it is refused, and 0 if it is accepted. long: a lent output is long enough; ok: the arguments are in range.
-pub fn refused(rec: &[u8], long: bool, ok: bool) -> u32
-    ensures { λ n. ⌜ n ≡ refusedWith (refusal long ok (now (rec .entry))) ⌝ }
+// What a changing call answers if it is refused, else 0. lengths: every lent slice beside the record has a length that is taken; own: what the call's own
+// refusals answer, 0 if there is none.
+pub fn change_refused(rec: &[u8], lengths: bool, own: u32) -> u32
+    ensures { λ n. ⌜ n ≡ changeAnswer lengths own (now (rec .entry)) ⌝ }
 {
-    if rec.len() != SIZE {
-        return REFUSED + 1;
-    }
-    if !long {
-        return REFUSED + 1;
-    }
-    if !grid::valid::valid(rec) {
-        return REFUSED + 2;
-    }
-    if !ok {
-        return REFUSED + 3;
-    }
-    0
-}
-
-// The same for a changing call, which a spent serial stops.
-pub fn change_refused(rec: &[u8], long: bool, ok: bool) -> u32
-    ensures { λ n. ⌜ n ≡ refusedWith (spent (refusal long ok (now (rec .entry))) (now (rec .entry))) ⌝ }
-{
-    let n = refused(rec, long, ok);
+    let n = record_refused(rec, lengths);
     if n != 0 {
         return n;
+    }
+    if own != 0 {
+        return own;
     }
     if grid::head::read_serial(rec) == LAST_SERIAL {
         return REFUSED + 4;

@@ -9,17 +9,19 @@ use lib.ListN.{length, take, length-append, length-take}
 use lib.Dec.{leb}
 use borrow.Author.Tests.{ltb-true, leb-true}
 use Rattle.grid.specs.Layout.{CHARS, ATTRS}
-use Rattle.grid.specs.Screen.{Row, Screen, noRow, rowAt, editable, byteOf, isEmpty, trimBy, every}
+use Rattle.grid.specs.Screen.{Row, Screen, noRow, rowAt, editable, isEmpty, trimBy}
+use Rattle.values.specs.Attr.{byteOf}
+use Rattle.bytes.specs.Test.{every, isByte}
 use Rattle.grid.specs.Record.{rowOf, rowsOf, screenOf}
-use Rattle.grid.specs.Facts.{ScreenFacts, Valid, isByte}
-use Rattle.grid.proofs.Bools.{and-left, and-right, cases}
-use Rattle.grid.proofs.Bytes.{isByte-lt}
+use Rattle.grid.specs.Facts.{ScreenFacts, Valid}
+use Rattle.bytes.proofs.Bools.{and-left, and-right, cases}
+use Rattle.bytes.proofs.NumberLaws.{isByte-lt}
 use Rattle.grid.proofs.Keep.{row-at}
-use Rattle.grid.proofs.Rows.{getD-rows, char-read, attr-read}
+use Rattle.grid.proofs.RowLaws.{getD-rows, char-read, attr-read}
 use Rattle.grid.proofs.Trim.{trim-le}
 use Rattle.line.proofs.KeptLine.{line-fits}
 use Rattle.editor.specs.Text.{isWhite, rowTexts, joinLines, snapshot}
-use Rattle.editor.specs.Outcome.{Query, inside, answer, TextCall, room, textOf}
+use Rattle.editor.specs.Outcome.{Query, inside, value, TextCall, room, textOf}
 use Rattle.editor.specs.Outcome.Query.{AskWidth, AskCursor, AskAttr, AskEditableRows, AskCell, AskContinues}
 use Rattle.editor.specs.Outcome.TextCall.{LogicalText, Snapshot}
 
@@ -65,17 +67,17 @@ room-most Snapshot = omega arith
 -- ---- the other answers
 
 module _ (l : List ℕ) (v : Valid l) (bytes : every isByte l ≡ true) where
-  pub answer-fits : (q : Query) → inside q (screenOf l) ≡ true → answer q (screenOf l) < 65536
-  unfolding answer inside byteOf
-  answer-fits AskWidth i = omega (arith, v)
-  answer-fits AskCursor i = omega (arith, v)
-  answer-fits AskAttr i = omega (arith, v)
-  answer-fits AskEditableRows i = omega (arith, v)
-  answer-fits (AskCell r c) i =
+  pub value-fits : (q : Query) → inside q (screenOf l) ≡ true → value q (screenOf l) < 65536
+  unfolding value inside byteOf
+  value-fits AskWidth i = omega (arith, v)
+  value-fits AskCursor i = omega (arith, v)
+  value-fits AskAttr i = omega (arith, v)
+  value-fits AskEditableRows i = omega (arith, v)
+  value-fits (AskCell r c) i =
       let row = leb-true r 24 (and-left (leb r 24) _ i) in
       let col = ltb-true c (screenOf l .head .width) (and-right (leb r 24) _ i) in
       let here : rowAt (rowsOf l) r ≡ rowOf l r = unfold rowAt in getD-rows l r noRow (omega arith) in
       let ch = isByte-lt l (CHARS + 80 * r + c) bytes (omega (arith, v)) in
       let at = isByte-lt l (ATTRS + 80 * r + c) bytes (omega (arith, v)) in
       rw here (omega (arith, char-read l r c (omega (arith, v)), attr-read l r c (omega (arith, v))))
-  answer-fits (AskContinues r) i = let row = leb-true r 24 i in omega (arith, row-at r (omega arith) (v .screen .rows))
+  value-fits (AskContinues r) i = let row = leb-true r 24 i in omega (arith, row-at r (omega arith) (v .screen .rows))

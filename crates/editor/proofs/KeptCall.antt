@@ -5,26 +5,32 @@ use mathlib.Core.Path.{_≡_, refl}
 use mathlib.Core.Bool.{true, false}
 use native.Mathlib.Omega.{arith}
 use borrow.Author.Tests.{leb-true}
-use Rattle.grid.specs.Screen.{Screen, at, attrOf, validScreen}
+use Rattle.grid.specs.Screen.{Screen}
+use Rattle.values.specs.Cursor.{at}
+use Rattle.values.specs.Attr.{attrOf}
 use Rattle.grid.specs.Facts.{ScreenFacts}
-use Rattle.grid.proofs.Moves.{left-inside, right-inside, up-inside, down-inside}
-use Rattle.grid.proofs.Validity.{width-cases, screen-facts, screen-valid}
-use Rattle.editor.specs.Call.{Call, rule, inRange, apply}
+use Rattle.values.proofs.CursorLaws.{left-inside, right-inside, up-inside, down-inside}
+use Rattle.bytes.proofs.WidthLaws.{width-cases}
+use Rattle.editor.specs.Call.{Call, rule, inRange, apply, own}
 use Rattle.editor.specs.Call.Call.{PrintBytes, TypeChar, Backspace, DeleteChar, EraseToEnd, EscapeLine, Tab, CtrlEnter, TakeLogicalLine, BreakLine, MoveLeft, MoveRight, MoveUp, MoveDown, Home, WordLeft, WordRight, EndOfLine, Clear, SetWidth, SetCursor, SetInsert, SetAttr, SetKeysOn}
-use Rattle.editor.specs.Motion.{setWidth, setKeysOn}
+use Rattle.editor.specs.Modes.{setWidth, setKeysOn}
 use Rattle.line.proofs.Kept.{Kept}
 use Rattle.editor.proofs.KeptPrint.{printed}
 use Rattle.editor.proofs.KeptTyping.{type-char, delete-char, back-space, erase-to-end, escape-line, tabbed, ctrl-enter, take-line, break-line}
 use Rattle.editor.proofs.KeptMotion.{KeptModes, valid-modes, here, moved, homed, clamped, word-left, word-right, end-of-line, cleared, width-set, keys-set}
+use Rattle.bytes.specs.Refusals.{allPass}
+use Rattle.bytes.proofs.Bools.{and-left}
+use lib.Dec.{leb}
+use Rattle.bytes.specs.Width.{widthb}
 
 module _ {P : Screen → Type 0} (m : KeptModes P) where
   k : Kept P
   k = m .kept
 
   -- what is kept by all, and by the two calls that change more, every call keeps
-  pub apply-kept : (c : Call) (s : Screen) → inRange c ≡ true → P s → ((w : ℕ) → c ≡ SetWidth w → P (setWidth w s))
+  pub apply-kept : (c : Call) (s : Screen) → inRange c s ≡ true → P s → ((w : ℕ) → c ≡ SetWidth w → P (setWidth w s))
       → ((v : ℕ) → c ≡ SetKeysOn v → P (setKeysOn v s)) → P (apply c s)
-  unfolding apply inRange rule
+  unfolding apply inRange own rule allPass
   apply-kept (PrintBytes bs) s r p wide keys = printed k bs false s p
   apply-kept (TypeChar ch) s r p wide keys = type-char k s ch p
   apply-kept Backspace s r p wide keys = back-space k s p
@@ -46,14 +52,11 @@ module _ {P : Screen → Type 0} (m : KeptModes P) where
   apply-kept Clear s r p wide keys = cleared k s p
   apply-kept (SetWidth w) s r p wide keys = wide w refl
   apply-kept (SetCursor y x) s r p wide keys = clamped k s p (at y x)
-  apply-kept (SetInsert v) s r p wide keys = m .insert s v p (leb-true v 1 r)
-  apply-kept (SetAttr a) s r p wide keys = let h = leb-true a 255 r in m .attr s (attrOf a) p (unfold attrOf in omega arith) (unfold attrOf in omega arith)
+  apply-kept (SetInsert v) s r p wide keys = m .insert s v p (leb-true v 1 (and-left (leb v 1) true r))
+  apply-kept (SetAttr a) s r p wide keys = let h = leb-true a 255 (and-left (leb a 255) true r) in m .attr s (attrOf a) p (unfold attrOf in omega arith) (unfold attrOf in omega arith)
   apply-kept (SetKeysOn v) s r p wide keys = keys v refl
 
-pub apply-facts : (c : Call) (s : Screen) → inRange c ≡ true → ScreenFacts s → ScreenFacts (apply c s)
-unfolding inRange rule
+pub apply-facts : (c : Call) (s : Screen) → inRange c s ≡ true → ScreenFacts s → ScreenFacts (apply c s)
+unfolding inRange own rule allPass
 apply-facts c s r f =
-    apply-kept valid-modes c s r f (λ w e. width-set s f w (width-cases w (rw e at r))) (λ v e. keys-set s f v (leb-true v 1 (rw e at r)))
-
-pub apply-valid : (c : Call) (s : Screen) → inRange c ≡ true → validScreen s ≡ true → validScreen (apply c s) ≡ true
-apply-valid c s r v = screen-valid _ (apply-facts c s r (screen-facts s v))
+    apply-kept valid-modes c s r f (λ w e. width-set s f w (width-cases w (and-left (widthb w) true (rw e at r)))) (λ v e. keys-set s f v (leb-true v 1 (and-left (leb v 1) true (rw e at r))))

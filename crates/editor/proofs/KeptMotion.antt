@@ -6,16 +6,19 @@ use mathlib.Core.Logic.{_⊎_}
 use native.Mathlib.Nat.{mod-lt, div-lt-iff-lt-mul, mul-le-mul-right}
 use native.Mathlib.Omega.{arith}
 use borrow.Author.Tests.{ltb-true}
-use Rattle.grid.specs.Screen.{Screen, home, withRows, moveTo, editable}
+use Rattle.grid.specs.Screen.{Screen, withRows, moveTo, editable}
+use Rattle.values.specs.Cursor.{home, clamp}
 use Rattle.grid.specs.Facts.{ScreenFacts}
-use Rattle.grid.specs.Moves.{clamp}
-use Rattle.grid.specs.declared.attr.Attr.{Attr}
-use Rattle.grid.specs.declared.cursor.Cursor.{Cursor}
-use Rattle.grid.proofs.Bools.{cases, either}
-use Rattle.grid.proofs.Validity.{head-is, width-from, width-to, editable-from}
-use Rattle.grid.proofs.Moves.{Inside, clamp-inside}
+use Rattle.values.specs.declared.attr.Attr.{Attr}
+use Rattle.values.specs.declared.cursor.Cursor.{Cursor}
+use Rattle.bytes.proofs.Bools.{cases, either}
+use Rattle.grid.proofs.Validity.{head-is, editable-from}
+use Rattle.bytes.proofs.WidthLaws.{width-from, width-to}
+use Rattle.values.proofs.CursorLaws.{Inside, clamp-inside}
 use Rattle.grid.proofs.Keep.{rows-replicate, blank-row, edited-top, blank-of}
-use Rattle.editor.specs.Motion.{place, cellOf, backToWord, wordStart, wordLeft, wordRight, endOfLine, clear, setWidth, setInsert, setAttr, setKeysOn}
+use Rattle.editor.specs.Words.{place, cellOf, backToWord, wordStart, wordLeft, wordRight}
+use Rattle.editor.specs.Motion.{endOfLine}
+use Rattle.editor.specs.Modes.{clear, setWidth, setInsert, setAttr, setKeysOn}
 use Rattle.line.proofs.Kept.{Kept, valid-kept}
 
 -- ---- the place of a cell

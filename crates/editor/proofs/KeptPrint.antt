@@ -11,8 +11,8 @@ use lib.Dec.{eqb}
 use borrow.Author.Tests.{ltb-true}
 use Rattle.grid.specs.Screen.{Row, Screen, withRows, putCell, scrolled, editable, printable}
 use Rattle.grid.specs.Facts.{RowFacts}
-use Rattle.grid.specs.declared.attr.Attr.{Attr}
-use Rattle.grid.proofs.Bools.{cases, either, every-set}
+use Rattle.values.specs.declared.attr.Attr.{Attr}
+use Rattle.bytes.proofs.Bools.{cases, either, every-set}
 use Rattle.grid.proofs.Validity.{row-valid}
 use Rattle.grid.proofs.Keep.{rows-take, rows-drop, rows-append, rows-count, rows-replicate, row-at, edited-set, edited-flag, edited-top, blank-of}
 use Rattle.line.proofs.Kept.{Kept}

@@ -7,15 +7,21 @@ use mathlib.Core.List.{List, [], _∷_, _++_}
 use native.Mathlib.Omega.{arith}
 use lib.ListN.{length, take, drop, set, length-append, length-take, length-drop, length-set}
 use borrow.Author.Tests.{ltb-true, leb-false}
-use Rattle.grid.specs.Screen.{Screen, withRows, editable, every, printable}
+use Rattle.grid.specs.Screen.{Screen, withRows, editable, printable, moveTo}
+use Rattle.bytes.specs.Test.{every}
 use Rattle.grid.specs.Facts.{ScreenFacts}
-use Rattle.grid.proofs.Bools.{cases, either, every-both, every-cons, every-take, every-drop, every-set}
+use Rattle.bytes.proofs.Bools.{cases, either, every-both, every-cons, every-take, every-drop, every-set}
 use Rattle.grid.proofs.Keep.{edited-flag}
 use Rattle.line.specs.Line.{MAX-LOGICAL, startOf, content, index}
-use Rattle.editor.specs.Typing.{typeAt, typeChar, deleteChar, backspace, eraseToEnd, escapeLine, typeSpaces, tab, ctrlEnter, takeLine, breakLine}
+use Rattle.editor.specs.Typing.{typeAt, typeChar, deleteChar, backspace, eraseToEnd}
+use Rattle.editor.specs.Lines.{escapeLine, ctrlEnter, takeLogicalLine, breakLine}
+use Rattle.editor.specs.Tab
+use Rattle.editor.specs.Tab.{typeSpaces, tab}
 use Rattle.line.proofs.Kept.{Kept}
 use Rattle.line.proofs.KeptLine.{SpanFacts, span, TextFacts, content-text, respliced, spliced}
 use Rattle.editor.proofs.KeptPrint.{next-row}
+use Rattle.line.specs.Splice.{withoutRows}
+use Rattle.values.specs.declared.cursor.Cursor.{Cursor}
 
 -- ---- the texts that are spliced
 
@@ -98,17 +104,19 @@ module _ {P : Screen → Type 0} (k : Kept P) where
     under = span s (s .head .cursor .row) (f .head .row)
 
     pub escape-line : P (escapeLine s)
-    unfolding escapeLine withRows every
+    unfolding escapeLine withoutRows withRows every
     escape-line =
         let b : startOf s (s .head .cursor .row) < editable (s .head .keys) = omega (arith, under, f) in
         k .move _ _ (k .edit s _ p (respliced s _ _ 0 [] f (record { count = refl; valid = refl }) b (omega arith))) b (omega (arith, f))
 
     pub tabbed : P (tab s)
-    unfolding tab
+    unfolding tab Tab.tabbed
     tabbed =
         either P _ _ _ (type-spaces _ s p)
-        (cases P _ _ _ (λ e. k .move s _ p (f .head .row) (ltb-true _ _ e))
-        (λ e. cases P _ _ _ (λ e. k .move s _ p (ltb-true _ _ e) (omega (arith, f))) (λ e. p)))
+        (cases (λ (c : Cursor). P (moveTo s c)) _ _ _ (λ e. k .move s _ p (f .head .row) (ltb-true _ _ e))
+        (λ e.
+        cases (λ (c : Cursor). P (moveTo s c)) _ _ _ (λ e. k .move s _ p (ltb-true _ _ e) (omega (arith, f)))
+        (λ e. k .move s _ p (f .head .row) (f .head .col))))
 
     pub ctrl-enter : P (ctrlEnter s)
     unfolding ctrlEnter withRows
@@ -117,8 +125,8 @@ module _ {P : Screen → Type 0} (k : Kept P) where
         (λ e. either P _ _ _ p
         (k .move _ _ (k .edit s _ p (edited-flag (f .rows) _ 1 (f .head .row) (f .head .edit-to) (omega arith))) (leb-false _ _ e) (omega (arith, f))))
 
-    pub take-line : P (takeLine s)
-    unfolding takeLine
+    pub take-line : P (takeLogicalLine s)
+    unfolding takeLogicalLine
     take-line =
         either P _ _ _ (k .edit s _ p (edited-flag (f .rows) _ 0 (omega (arith, under)) (f .head .edit-to) (omega arith)))
         (next-row k _ (k .move s _ p (omega (arith, under)) (omega (arith, f))))

@@ -1,148 +1,149 @@
 -- Each kind of call is refused exactly by document 01's conditions, in their order, and does what the rules say otherwise.
 -- Assumes nothing.
-use Prim.Native.Nat.{ℕ, _≤_}
+use Prim.Native.Nat.{ℕ, _<_}
 use mathlib.Core.Path.{_≡_, refl, sym, ap, _∙_, subst}
 use mathlib.Core.Bool.{Bool, true, false, not, _&&_, true≢false, not-eq-not}
-use mathlib.Core.List.{List, []}
-use mathlib.Core.Logic.{_↔_, _≢_, inl, inr, ⊎-elim}
+use mathlib.Core.List.{List, [], _∷_, _++_}
+use mathlib.Core.Logic.{_≢_, inl, inr, ⊎-elim}
 use native.Mathlib.Omega.{arith}
 use lib.ListN.{length}
 use lib.Dec.{leb, ltb, eqb}
-use borrow.Author.Tests.{ltb-false, leb-false, eqb-false, le-ltb, lt-leb, eq-eqb, eqb-true, ne-eqb}
-use Rattle.grid.specs.Choice.{if_then_else_}
-use Rattle.grid.specs.Answer.{refused, over, Written, unless, wrote}
+use borrow.Author.Tests.{ltb-false, leb-false, eqb-false, le-ltb, lt-leb, eq-eqb, eqb-true, ne-eqb, not-false}
+use Rattle.bytes.specs.Choice.{if_then_else_}
+use Rattle.bytes.specs.Answer.{refused, over, Written, unless, wrote}
 use Rattle.grid.specs.Layout.{SIZE}
-use Rattle.grid.specs.Screen.{Screen, widthb, every, newState}
-use Rattle.grid.specs.Record.{serialOf, screenOf, readState, stateBytes, validb}
-use Rattle.grid.specs.Facts.{isByte, Valid}
-use Rattle.grid.proofs.Bools.{and-false, left-false, and-cases, fails}
-use Rattle.grid.proofs.Validity.{width-cases, cases-width, valid-facts, facts-valid}
-use Rattle.line.specs.Line.{MAX-LOGICAL}
+use Rattle.grid.specs.Screen.{Screen, newState}
+use Rattle.bytes.specs.Width.{widthb}
+use Rattle.bytes.specs.Test.{every, isByte}
+use Rattle.grid.specs.Record.{serialOf, screenOf, readState, stateBytes}
+use Rattle.bytes.proofs.Bools.{and-false, left-false, and-cases, and-right, and-left}
+use Rattle.bytes.proofs.WidthLaws.{width-cases, cases-width}
 use Rattle.line.proofs.KeptLine.{line-fits}
-use Rattle.editor.specs.Call.{Call, rule, output, roomy, inRange, submitted, step}
+use Rattle.editor.specs.Call.{Call, rule, output, lengths, own, inRange, submitted, answer, step}
 use Rattle.editor.specs.Call.Call.{PrintBytes, TypeChar, Backspace, DeleteChar, EraseToEnd, EscapeLine, Tab, CtrlEnter, TakeLogicalLine, BreakLine, MoveLeft, MoveRight, MoveUp, MoveDown, Home, WordLeft, WordRight, EndOfLine, Clear, SetWidth, SetCursor, SetInsert, SetAttr, SetKeysOn}
-use Rattle.editor.specs.Outcome.{refusal, LAST-SERIAL, changeRefusal, Outcome, changing, creating, Query, inside, answer, asking, TextCall, room, textOf, texting}
+use Rattle.editor.specs.Outcome.{LAST-SERIAL, serialTests, changeTests, Outcome, changing, creating, Query, inside, value, queryTests, asking, TextCall, room, textOf, texting}
 use Rattle.editor.specs.Outcome.Query.{AskWidth, AskCursor, AskAttr, AskEditableRows, AskCell, AskContinues}
 use Rattle.editor.specs.Outcome.TextCall.{LogicalText, Snapshot}
-use Rattle.editor.specs.Refusals.{ShortOutput, OutOfRange, ChangeRefused, ChangingAnswers, NewRefused, CreatingAnswers, Outside, QueryRefused, AskingAnswers, ShortText, TextRefused, TextingAnswers}
-use Rattle.editor.specs.Refusals.ShortOutput.{line}
-use Rattle.editor.specs.Refusals.OutOfRange.{character, attribute, insert, keys, width}
-use Rattle.editor.specs.Refusals.ChangeRefused.{record-length, output-length, layout, argument, last-serial}
+use Rattle.editor.specs.Refusals.{WrongLength, ArgumentRefused, ChangeRefused, ChangingAnswers, NewRefused, CreatingAnswers, Outside, QueryRefused, AskingAnswers, ShortText, TextRefused, TextingAnswers}
+use Rattle.editor.specs.Refusals.WrongLength.{line}
+use Rattle.editor.specs.Refusals.ArgumentRefused.{character, attribute, insert, keys, width}
+use Rattle.editor.specs.Refusals.ChangeRefused.{record-length, lent-length, layout, argument, last-serial}
 use Rattle.editor.specs.Refusals.NewRefused.{record-length as new-length}
 use Rattle.editor.specs.Refusals.Outside.{cell-row, cell-column, continues-row}
 use Rattle.editor.specs.Refusals.QueryRefused.{record-length as query-length, layout as query-layout, argument as query-argument}
 use Rattle.editor.specs.Refusals.ShortText.{line as text-line, picture}
 use Rattle.editor.specs.Refusals.TextRefused.{record-length as text-length, output-length as text-output, layout as text-layout}
-use Rattle.editor.proofs.Found.Fails.{at-size, at-layout, at-range, at-last}
-use Rattle.editor.proofs.Found.{Found, answered, numbered, numbered-early, numbered-size, Fails, numbered-found, Passed, numbered-none}
-use Rattle.editor.proofs.Answers.{text-fits, room-most, answer-fits}
-
--- ---- tests and conditions
-
-pub not-valid : (l : List ℕ) → (¬ Valid l) ↔ (validb l ≡ false)
-not-valid l = fails (Valid l) (validb l) (valid-facts l) (facts-valid l)
-
--- the refusals of `Outcome` are found by the tests
-late-is : (a b c d : Bool) →
-    (let k : ℕ = if not a then 1 else if not b then 2 else if not c then 3 else 0 in if eqb k 0 && d then 4 else k) ≡ numbered a b c d
-unfolding numbered if_then_else_
-late-is false b c d = refl
-late-is true false c d = refl
-late-is true true false d = refl
-late-is true true true true = refl
-late-is true true true false = refl
-
-early-none : (long ok : Bool) (l : List ℕ) → refusal long ok l ≡ 0 → Passed (eqb (length l) SIZE && long) (validb l) ok false
-unfolding refusal
-early-none long ok l e = numbered-none _ _ _ _ (sym (numbered-early (eqb (length l) SIZE && long) (validb l) ok) ∙ e)
+use Rattle.editor.proofs.Answers.{text-fits, room-most, value-fits}
+use Rattle.bytes.specs.Refusals.{order, placeIn, firstOf, allPass}
+use Rattle.bytes.proofs.Found.{Fails, First, Found, found, found-none, ordered, answered, fails-left, fails-right, first-split, none-first, none-fails, all-pass, pass-append}
+use Rattle.bytes.proofs.Found.Fails.{here}
+use Rattle.bytes.proofs.Found.First.{now, later}
+use Rattle.grid.specs.Refusals.{recordTests}
+use Rattle.grid.proofs.RefusalLaws.{Taken, tests-taken, record-ordered, record-sound, size-fails, other-fails, layout-fails}
 
 -- ---- changing calls
 
--- what the tests of a call say when they fail, and how long its text is
+-- what the tests of a call say when they fail, how large its answer is, and that the tests stand in their order
 pub record Tells (c : Call) : Type 0 where
-  pub short : roomy c ≡ false → ShortOutput c
-  pub outside : inRange c ≡ false → OutOfRange c
-  pub text : (s : Screen) → length (submitted c s) ≤ MAX-LOGICAL
+  pub short : lengths c ≡ false → WrongLength c
+  pub own-first : (s : Screen) (k : ℕ) → First (own c s) k → ArgumentRefused s c k
+  pub small : (s : Screen) → answer c s < refused 0
+  pub order : (l : List ℕ) → ordered 0 (changeTests c l) ≡ true
 
--- a call with no output
-given-tells : (c : Call) → roomy c ≡ true → ((s : Screen) → submitted c s ≡ []) → (inRange c ≡ false → OutOfRange c) → Tells c
-given-tells c r t o =
+-- a call with no output, and with no argument that can be out of range
+always-tells : (c : Call) → lengths c ≡ true → ((s : Screen) → answer c s ≡ 0) → ((s : Screen) → own c s ≡ [])
+    → ((l : List ℕ) → ordered 0 (changeTests c l) ≡ true) → Tells c
+always-tells c r n none o =
     record {
       short = λ e. absurd (true≢false (sym r ∙ e));
-      outside = o;
-      text = λ s. rw (t s) (omega arith);
+      own-first = λ s k f. none-first (subst (λ (ts : List (ℕ × Bool)). First ts k) (none s) f);
+      small = λ s. omega (arith, n s);
+      order = o;
     }
 
--- and with no argument that can be out of range
-always-tells : (c : Call) → roomy c ≡ true → ((s : Screen) → submitted c s ≡ []) → inRange c ≡ true → Tells c
-always-tells c r t o = given-tells c r t (λ e. absurd (true≢false (sym o ∙ e)))
+-- and with one that is in range where ok says so
+given-tells : (c : Call) (ok : Bool) → lengths c ≡ true → ((s : Screen) → answer c s ≡ 0) → ((s : Screen) → own c s ≡ (3, ok) ∷ [])
+    → ((l : List ℕ) → ordered 0 (changeTests c l) ≡ true) → ((s : Screen) → ok ≡ false → ArgumentRefused s c 3) → Tells c
+given-tells c ok r n one o outside =
+    record {
+      short = λ e. absurd (true≢false (sym r ∙ e));
+      own-first = λ s k f. go s k (subst (λ (ts : List (ℕ × Bool)). First ts k) (one s) f);
+      small = λ s. omega (arith, n s);
+      order = o;
+    }
+  where
+    go : (s : Screen) (k : ℕ) → First ((3, ok) ∷ []) k → ArgumentRefused s c k
+    go s k (now e) = outside s e
+    go s k (later e f) = none-first f
 
 width-not : (w : ℕ) → widthb w ≡ false → (w ≢ 40) × (w ≢ 80)
 width-not w e = (λ q. true≢false (sym (cases-width w (inl q)) ∙ e), λ q. true≢false (sym (cases-width w (inr q)) ∙ e))
 
 pub tells : (c : Call) → Tells c
-unfolding roomy inRange submitted rule
-tells (PrintBytes bs) = always-tells _ refl (λ s. refl) refl
-tells (TypeChar ch) = given-tells _ refl (λ s. refl) (λ e. character (leb-false ch 255 e))
-tells Backspace = always-tells _ refl (λ s. refl) refl
-tells DeleteChar = always-tells _ refl (λ s. refl) refl
-tells EraseToEnd = always-tells _ refl (λ s. refl) refl
-tells EscapeLine = always-tells _ refl (λ s. refl) refl
-tells Tab = always-tells _ refl (λ s. refl) refl
-tells CtrlEnter = always-tells _ refl (λ s. refl) refl
+unfolding lengths own answer rule changeTests recordTests serialTests ordered placeIn order if_then_else_
+tells (PrintBytes bs) = always-tells _ refl (λ s. refl) (λ s. refl) (λ l. refl)
+tells (TypeChar ch) = given-tells _ _ refl (λ s. refl) (λ s. refl) (λ l. refl) (λ s e. character (leb-false ch 255 e))
+tells Backspace = always-tells _ refl (λ s. refl) (λ s. refl) (λ l. refl)
+tells DeleteChar = always-tells _ refl (λ s. refl) (λ s. refl) (λ l. refl)
+tells EraseToEnd = always-tells _ refl (λ s. refl) (λ s. refl) (λ l. refl)
+tells EscapeLine = always-tells _ refl (λ s. refl) (λ s. refl) (λ l. refl)
+tells Tab = always-tells _ refl (λ s. refl) (λ s. refl) (λ l. refl)
+tells CtrlEnter = always-tells _ refl (λ s. refl) (λ s. refl) (λ l. refl)
 tells (TakeLogicalLine out) =
-    record { short = λ e. line (leb-false _ _ e); outside = λ e. absurd (true≢false e); text = line-fits }
-tells BreakLine = always-tells _ refl (λ s. refl) refl
-tells MoveLeft = always-tells _ refl (λ s. refl) refl
-tells MoveRight = always-tells _ refl (λ s. refl) refl
-tells MoveUp = always-tells _ refl (λ s. refl) refl
-tells MoveDown = always-tells _ refl (λ s. refl) refl
-tells Home = always-tells _ refl (λ s. refl) refl
-tells WordLeft = always-tells _ refl (λ s. refl) refl
-tells WordRight = always-tells _ refl (λ s. refl) refl
-tells EndOfLine = always-tells _ refl (λ s. refl) refl
-tells Clear = always-tells _ refl (λ s. refl) refl
-tells (SetWidth w) = given-tells _ refl (λ s. refl) (λ e. width (width-not w e .0) (width-not w e .1))
-tells (SetCursor r c) = always-tells _ refl (λ s. refl) refl
-tells (SetInsert v) = given-tells _ refl (λ s. refl) (λ e. insert (leb-false v 1 e))
-tells (SetAttr a) = given-tells _ refl (λ s. refl) (λ e. attribute (leb-false a 255 e))
-tells (SetKeysOn v) = given-tells _ refl (λ s. refl) (λ e. keys (leb-false v 1 e))
+    record { short = λ e. line (leb-false _ _ e); own-first = λ s k f. none-first f; small = λ s. omega (arith, line-fits s); order = λ l. refl }
+tells BreakLine = always-tells _ refl (λ s. refl) (λ s. refl) (λ l. refl)
+tells MoveLeft = always-tells _ refl (λ s. refl) (λ s. refl) (λ l. refl)
+tells MoveRight = always-tells _ refl (λ s. refl) (λ s. refl) (λ l. refl)
+tells MoveUp = always-tells _ refl (λ s. refl) (λ s. refl) (λ l. refl)
+tells MoveDown = always-tells _ refl (λ s. refl) (λ s. refl) (λ l. refl)
+tells Home = always-tells _ refl (λ s. refl) (λ s. refl) (λ l. refl)
+tells WordLeft = always-tells _ refl (λ s. refl) (λ s. refl) (λ l. refl)
+tells WordRight = always-tells _ refl (λ s. refl) (λ s. refl) (λ l. refl)
+tells EndOfLine = always-tells _ refl (λ s. refl) (λ s. refl) (λ l. refl)
+tells Clear = always-tells _ refl (λ s. refl) (λ s. refl) (λ l. refl)
+tells (SetWidth w) = given-tells _ _ refl (λ s. refl) (λ s. refl) (λ l. refl) (λ s e. width (width-not w e .0) (width-not w e .1))
+tells (SetCursor r c) = always-tells _ refl (λ s. refl) (λ s. refl) (λ l. refl)
+tells (SetInsert v) = given-tells _ _ refl (λ s. refl) (λ s. refl) (λ l. refl) (λ s e. insert (leb-false v 1 e))
+tells (SetAttr a) = given-tells _ _ refl (λ s. refl) (λ s. refl) (λ l. refl) (λ s e. attribute (leb-false a 255 e))
+tells (SetKeysOn v) = given-tells _ _ refl (λ s. refl) (λ s. refl) (λ l. refl) (λ s e. keys (leb-false v 1 e))
 
-pub short-fails : {c : Call} → ShortOutput c → roomy c ≡ false
-unfolding roomy rule
-short-fails (line h) = lt-leb _ _ h
+wrong-fails : {c : Call} → WrongLength c → lengths c ≡ false
+unfolding lengths rule
+wrong-fails (line h) = lt-leb _ _ h
 
-pub outside-fails : {c : Call} → OutOfRange c → inRange c ≡ false
-unfolding inRange rule
-outside-fails (character h) = lt-leb _ _ h
-outside-fails (attribute h) = lt-leb _ _ h
-outside-fails (insert h) = lt-leb _ _ h
-outside-fails (keys h) = lt-leb _ _ h
-outside-fails (width n m) = not-eq-not {b = false} .0 (λ t. ⊎-elim n m (width-cases _ t))
+argument-fails : {s : Screen} {c : Call} {k : ℕ} → ArgumentRefused s c k → Fails (own c s) k
+unfolding own rule
+argument-fails (character h) = here (lt-leb _ _ h)
+argument-fails (attribute h) = here (lt-leb _ _ h)
+argument-fails (insert h) = here (lt-leb _ _ h)
+argument-fails (keys h) = here (lt-leb _ _ h)
+argument-fails (width n m) = here (not-eq-not {b = false} .0 (λ t. ⊎-elim n m (width-cases _ t)))
 
 module _ (c : Call) (l : List ℕ) where
-  abbrev ChangeFails : ℕ → Type 0
-  ChangeFails j = Fails (eqb (length l) SIZE && roomy c) (validb l) (inRange c) (eqb (serialOf l) LAST-SERIAL) j
+  change-sound : (k : ℕ) → First (changeTests c l) k → ChangeRefused c l k
+  unfolding changeTests serialTests
+  change-sound k f =
+      ⊎-elim (λ (g : First (recordTests (lengths c) l) k). record-sound (ChangeRefused c l) l (lengths c) record-length (λ e. lent-length (tells c .short e)) layout k g)
+      (λ (g : First (own c (screenOf l) ++ serialTests l) k).
+      ⊎-elim (λ (i : First (own c (screenOf l)) k). argument (tells c .own-first (screenOf l) k i)) (λ (i : First (serialTests l) k). last k i)
+      (first-split (own c (screenOf l)) g))
+      (first-split (recordTests (lengths c) l) f)
+    where
+      last : (k : ℕ) → First (serialTests l) k → ChangeRefused c l k
+      last k (now e) = last-serial (eqb-true _ _ (not-false _ e))
+      last k (later e f) = none-first f
 
-  change-fails : {j : ℕ} → ChangeRefused c l j → ChangeFails j
-  change-fails (record-length n) = at-size (left-false (eqb (length l) SIZE) (roomy c) (ne-eqb _ _ n))
-  change-fails (output-length h) = at-size (and-false (eqb (length l) SIZE) (roomy c) (short-fails h))
-  change-fails (layout n) = at-layout (not-valid l .0 n)
-  change-fails (argument h) = at-range (outside-fails h)
-  change-fails (last-serial e) = at-last (eq-eqb _ _ e)
+  change-whole : (k : ℕ) → ChangeRefused c l k → Fails (changeTests c l) k
+  unfolding changeTests
+  change-whole k (record-length n) = fails-left _ (size-fails l (lengths c) n)
+  change-whole k (lent-length w) = fails-left _ (other-fails l (lengths c) (wrong-fails w))
+  change-whole k (layout n) = fails-left _ (layout-fails l (lengths c) n)
+  change-whole k (argument a) = fails-right (recordTests (lengths c) l) (fails-left _ (argument-fails a))
+  change-whole k (last-serial e) =
+      fails-right (recordTests (lengths c) l) (fails-right (own c (screenOf l)) (unfold serialTests in here (ap not (eq-eqb _ _ e))))
 
-  fails-change : {j : ℕ} → ChangeFails j → ChangeRefused c l j
-  fails-change (at-size e) =
-      ⊎-elim (λ n. record-length (eqb-false _ _ n)) (λ n. output-length (tells c .short n)) (and-cases (eqb (length l) SIZE) (roomy c) e)
-  fails-change (at-layout e) = layout (not-valid l .1 e)
-  fails-change (at-range e) = argument (tells c .outside e)
-  fails-change (at-last e) = last-serial (eqb-true _ _ e)
-
-  change-found : Found (ChangeRefused c l) (changeRefusal c l)
-  unfolding changeRefusal refusal
-  change-found =
-      subst (Found (ChangeRefused c l)) (sym (late-is (eqb (length l) SIZE && roomy c) (validb l) (inRange c) (eqb (serialOf l) LAST-SERIAL)))
-      (numbered-found _ _ _ _ (λ j. (change-fails, fails-change)))
+  change-found : Found (ChangeRefused c l) (firstOf (changeTests c l))
+  change-found = found _ _ (tells c .order l) change-sound change-whole
 
   pub changing-answers : ChangingAnswers c l
   unfolding changing
@@ -150,36 +151,62 @@ module _ (c : Call) (l : List ℕ) where
       let text : List ℕ = submitted c (screenOf l) in
       let a =
       answered (λ (o : Outcome). o .number) change-found
-      (record { number = length text; rec = stateBytes (step c (readState l)); out = over text (output c) })
-      (record { number = refused (changeRefusal c l); rec = l; out = output c })
-      (λ e. omega (arith, tells c .text (screenOf l))) refl in
+      (record { number = answer c (screenOf l); rec = stateBytes (step c (readState l)); out = over text (output c) })
+      (record { number = refused (firstOf (changeTests c l)); rec = l; out = output c })
+      (λ e. tells c .small (screenOf l)) refl in
       record {
         number = a .refuses;
         kept = λ h. (ap (λ (o : Outcome). o .rec) (a .kept h), ap (λ (o : Outcome). o .out) (a .kept h));
         done = a .done;
       }
 
+  -- no test of an accepted call fails
+  pub change-none : changing c l .number < refused 1 → firstOf (changeTests c l) ≡ 0
+  change-none h = found-none change-found (changing-answers .number .accepted .0 h)
+
+-- ---- what is so of an accepted changing call
+
+pub record Going (c : Call) (l : List ℕ) : Type 0 where
+  pub start : Taken (lengths c) l
+  pub in-range : inRange c (screenOf l) ≡ true
+  pub serial : serialOf l ≢ LAST-SERIAL
+
+pub going : (c : Call) (l : List ℕ) → firstOf (changeTests c l) ≡ 0 → Going c l
+unfolding changeTests inRange serialTests allPass
+going c l e =
+    let first : List (ℕ × Bool) = recordTests (lengths c) l in
+    let mine : List (ℕ × Bool) = own c (screenOf l) in
+    let all : allPass (first ++ (mine ++ serialTests l)) ≡ true = none-fails 0 (changeTests c l) (tells c .order l) e in
+    let parts : allPass first && allPass (mine ++ serialTests l) ≡ true = sym (pass-append first (mine ++ serialTests l)) ∙ all in
+    let late : allPass mine && allPass (serialTests l) ≡ true =
+    sym (pass-append mine (serialTests l)) ∙ and-right (allPass first) (allPass (mine ++ serialTests l)) parts in
+    let start = and-left (allPass first) (allPass (mine ++ serialTests l)) parts in
+    record {
+      start = tests-taken (lengths c) l start (all-pass first start);
+      in-range = and-left (allPass mine) (allPass (serialTests l)) late;
+      serial = λ q.
+          true≢false
+          (sym (and-left (not (eqb (serialOf l) LAST-SERIAL)) true (and-right (allPass mine) (allPass (serialTests l)) late))
+          ∙ ap not (eq-eqb _ _ q));
+    }
+
 -- ---- new screen
 
 module _ (w : ℕ) (l : List ℕ) where
-  new-fails : {j : ℕ} → NewRefused l j → Fails (eqb (length l) SIZE) true true false j
-  new-fails (new-length n) = at-size (ne-eqb _ _ n)
+  new-sound : (k : ℕ) → First ((1, eqb (length l) SIZE) ∷ []) k → NewRefused l k
+  new-sound k (now e) = new-length (eqb-false _ _ e)
+  new-sound k (later e f) = none-first f
 
-  fails-new : {j : ℕ} → Fails (eqb (length l) SIZE) true true false j → NewRefused l j
-  fails-new (at-size e) = new-length (eqb-false _ _ e)
-  fails-new (at-layout e) = absurd (true≢false e)
-  fails-new (at-range e) = absurd (true≢false e)
-  fails-new (at-last e) = absurd (true≢false (sym e))
-
-  new-found : Found (NewRefused l) (if eqb (length l) SIZE then 0 else 1)
-  new-found = subst (Found (NewRefused l)) (sym (numbered-size (eqb (length l) SIZE))) (numbered-found _ _ _ _ (λ j. (new-fails, fails-new)))
+  new-whole : (k : ℕ) → NewRefused l k → Fails ((1, eqb (length l) SIZE) ∷ []) k
+  new-whole k (new-length n) = here (ne-eqb _ _ n)
 
   pub creating-answers : CreatingAnswers w l
   unfolding creating unless
   creating-answers =
       let a =
-      answered (λ (o : Written). o .number) new-found (record { number = 0; bytes = stateBytes (newState w) }) (record { number = refused _; bytes = l })
-      (λ e. omega arith) refl in
+      answered (λ (o : Written). o .number)
+      (found (NewRefused l) ((1, eqb (length l) SIZE) ∷ []) (unfold ordered placeIn order if_then_else_ in refl) new-sound new-whole)
+      (record { number = 0; bytes = stateBytes (newState w) }) (record { number = refused _; bytes = l }) (λ e. omega arith) refl in
       record { number = a .refuses; kept = λ h. ap (λ (o : Written). o .bytes) (a .kept h); done = a .done }
 
 -- ---- reading calls
@@ -201,35 +228,47 @@ inside-outside s (AskCell r c) e =
 inside-outside s (AskContinues r) e = continues-row (leb-false _ _ e)
 
 module _ (q : Query) (l : List ℕ) where
-  abbrev QueryFails : ℕ → Type 0
-  QueryFails j = Fails (eqb (length l) SIZE && true) (validb l) (inside q (screenOf l)) false j
+  query-sound : (k : ℕ) → First (queryTests q l) k → QueryRefused q l k
+  unfolding queryTests
+  query-sound k f =
+      ⊎-elim (λ (g : First (recordTests true l) k). record-sound (QueryRefused q l) l true query-length (λ e. absurd (true≢false e)) query-layout k g)
+      (λ (g : First ((3, inside q (screenOf l)) ∷ []) k). go k g) (first-split (recordTests true l) f)
+    where
+      go : (k : ℕ) → First ((3, inside q (screenOf l)) ∷ []) k → QueryRefused q l k
+      go k (now e) = query-argument (inside-outside (screenOf l) q e)
+      go k (later e f) = none-first f
 
-  query-fails : {j : ℕ} → QueryRefused q l j → QueryFails j
-  query-fails (query-length n) = at-size (left-false (eqb (length l) SIZE) true (ne-eqb _ _ n))
-  query-fails (query-layout n) = at-layout (not-valid l .0 n)
-  query-fails (query-argument h) = at-range (outside-inside h)
+  query-whole : (k : ℕ) → QueryRefused q l k → Fails (queryTests q l) k
+  unfolding queryTests
+  query-whole k (query-length n) = fails-left _ (size-fails l true n)
+  query-whole k (query-layout n) = fails-left _ (layout-fails l true n)
+  query-whole k (query-argument h) = fails-right (recordTests true l) (here (outside-inside h))
 
-  fails-query : {j : ℕ} → QueryFails j → QueryRefused q l j
-  fails-query (at-size e) =
-      ⊎-elim (λ n. query-length (eqb-false _ _ n)) (λ n. absurd (true≢false n)) (and-cases (eqb (length l) SIZE) true e)
-  fails-query (at-layout e) = query-layout (not-valid l .1 e)
-  fails-query (at-range e) = query-argument (inside-outside (screenOf l) q e)
-  fails-query (at-last e) = absurd (true≢false (sym e))
+  query-ordered : ordered 0 (queryTests q l) ≡ true
+  unfolding queryTests recordTests ordered placeIn order if_then_else_
+  query-ordered = refl
 
-  query-found : Found (QueryRefused q l) (refusal true (inside q (screenOf l)) l)
-  unfolding refusal
-  query-found =
-      subst (Found (QueryRefused q l)) (sym (numbered-early (eqb (length l) SIZE && true) (validb l) (inside q (screenOf l))))
-      (numbered-found _ _ _ _ (λ j. (query-fails, fails-query)))
+  query-found : Found (QueryRefused q l) (firstOf (queryTests q l))
+  query-found = found _ _ query-ordered query-sound query-whole
+
+  -- what is so of an accepted query
+  pub query-none : firstOf (queryTests q l) ≡ 0 → Taken true l × (inside q (screenOf l) ≡ true)
+  unfolding queryTests allPass
+  query-none e =
+      let one : List (ℕ × Bool) = (3, inside q (screenOf l)) ∷ [] in
+      let all : allPass (recordTests true l ++ one) ≡ true = none-fails 0 (queryTests q l) query-ordered e in
+      let parts : allPass (recordTests true l) && allPass one ≡ true = sym (pass-append (recordTests true l) one) ∙ all in
+      let start = and-left (allPass (recordTests true l)) (allPass one) parts in (
+        tests-taken true l start (all-pass (recordTests true l) start),
+        and-left (inside q (screenOf l)) true (and-right (allPass (recordTests true l)) (allPass one) parts),
+      )
 
   pub asking-answers : every isByte l ≡ true → AskingAnswers q l
   unfolding asking
   asking-answers bytes =
       let a =
-      answered (λ (n : ℕ). n) query-found (answer q (screenOf l)) (refused (refusal true (inside q (screenOf l)) l))
-      (λ e.
-      let p = early-none true (inside q (screenOf l)) l e in
-      omega (arith, answer-fits l (valid-facts l (p .layout)) bytes q (p .range))) refl in
+      answered (λ (n : ℕ). n) query-found (value q (screenOf l)) (refused (firstOf (queryTests q l)))
+      (λ e. let p = query-none e in omega (arith, value-fits l (p .0 .valid) bytes q (p .1))) refl in
       record { number = a .refuses; done = a .done }
 
 -- ---- text calls
@@ -245,33 +284,23 @@ room-short out LogicalText e = text-line (leb-false _ _ e)
 room-short out Snapshot e = picture (leb-false _ _ e)
 
 module _ (q : TextCall) (l out : List ℕ) where
-  abbrev TextFails : ℕ → Type 0
-  TextFails j = Fails (eqb (length l) SIZE && leb (room q) (length out)) (validb l) true false j
+  text-sound : (k : ℕ) → First (recordTests (leb (room q) (length out)) l) k → TextRefused q l out k
+  text-sound k f = record-sound (TextRefused q l out) l (leb (room q) (length out)) text-length (λ e. text-output (room-short out q e)) text-layout k f
 
-  text-fails : {j : ℕ} → TextRefused q l out j → TextFails j
-  text-fails (text-length n) = at-size (left-false (eqb (length l) SIZE) _ (ne-eqb _ _ n))
-  text-fails (text-output h) = at-size (and-false (eqb (length l) SIZE) _ (short-room h))
-  text-fails (text-layout n) = at-layout (not-valid l .0 n)
-
-  fails-text : {j : ℕ} → TextFails j → TextRefused q l out j
-  fails-text (at-size e) =
-      ⊎-elim (λ n. text-length (eqb-false _ _ n)) (λ n. text-output (room-short out q n)) (and-cases (eqb (length l) SIZE) (leb (room q) (length out)) e)
-  fails-text (at-layout e) = text-layout (not-valid l .1 e)
-  fails-text (at-range e) = absurd (true≢false e)
-  fails-text (at-last e) = absurd (true≢false (sym e))
-
-  text-found : Found (TextRefused q l out) (refusal (leb (room q) (length out)) true l)
-  unfolding refusal
-  text-found =
-      subst (Found (TextRefused q l out)) (sym (numbered-early (eqb (length l) SIZE && leb (room q) (length out)) (validb l) true))
-      (numbered-found _ _ _ _ (λ j. (text-fails, fails-text)))
+  text-whole : (k : ℕ) → TextRefused q l out k → Fails (recordTests (leb (room q) (length out)) l) k
+  text-whole k (text-length n) = size-fails l _ n
+  text-whole k (text-output h) = other-fails l _ (short-room h)
+  text-whole k (text-layout n) = layout-fails l _ n
 
   pub texting-answers : TextingAnswers q l out
   unfolding texting unless wrote
   texting-answers =
+      let tests : List (ℕ × Bool) = recordTests (leb (room q) (length out)) l in
+      let order = record-ordered l (leb (room q) (length out)) in
       let a =
-      answered (λ (o : Written). o .number) text-found (wrote (textOf q (screenOf l)) out) (record { number = refused _; bytes = out })
+      answered (λ (o : Written). o .number) (found (TextRefused q l out) tests order text-sound text-whole) (wrote (textOf q (screenOf l)) out)
+      (record { number = refused _; bytes = out })
       (λ e.
-      let p = early-none (leb (room q) (length out)) true l e in
-      omega (arith, text-fits q (screenOf l) (valid-facts l (p .layout) .screen), room-most q)) refl in
+      let p = tests-taken (leb (room q) (length out)) l (none-fails 0 tests order e) e in
+      omega (arith, text-fits q (screenOf l) (p .valid .screen), room-most q)) refl in
       record { number = a .refuses; kept = λ h. ap (λ (o : Written). o .bytes) (a .kept h); done = a .done }

@@ -5,12 +5,19 @@ use mathlib.Core.Bool.{Bool, true}
 use mathlib.Core.List.{List, [], _∷_}
 use lib.Dec.{leb}
 use lib.ListN.{length}
-use Rattle.grid.specs.Screen.{Screen, State, at, home, attrOf, moveTo, editable, widthb, touchedRows}
-use Rattle.grid.specs.Moves.{left, right, up, down, clamp}
+use Rattle.bytes.specs.Refusals.{allPass}
+use Rattle.grid.specs.Screen.{Screen, State, moveTo, editable, touchedRows}
+use Rattle.values.specs.Cursor.{at, home, left, right, up, down, clamp}
+use Rattle.values.specs.Attr.{attrOf}
+use Rattle.bytes.specs.Width.{widthb}
 use Rattle.line.specs.Line.{MAX-LOGICAL, lineText}
 use Rattle.editor.specs.Print.{printBytes}
-use Rattle.editor.specs.Typing.{typeChar, backspace, deleteChar, eraseToEnd, escapeLine, tab, ctrlEnter, takeLine, breakLine}
-use Rattle.editor.specs.Motion.{wordLeft, wordRight, endOfLine, clear, setWidth, setInsert, setAttr, setKeysOn}
+use Rattle.editor.specs.Typing.{typeChar, backspace, deleteChar, eraseToEnd}
+use Rattle.editor.specs.Lines.{escapeLine, ctrlEnter, takeLogicalLine, breakLine}
+use Rattle.editor.specs.Tab.{tab}
+use Rattle.editor.specs.Words.{wordLeft, wordRight}
+use Rattle.editor.specs.Motion.{endOfLine}
+use Rattle.editor.specs.Modes.{clear, setWidth, setInsert, setAttr, setKeysOn}
 
 -- `take_logical_line` has the output that it is lent, as it is at entry
 pub data Call : Type 0 where
@@ -27,21 +34,31 @@ pub data Call : Type 0 where
 -- ---- the rule of a call
 
 pub record Rule : Type 0 where
-  -- the output lent, and whether it is long enough: else refusal 1
+  -- the output lent, and whether every lent slice beside the record has a length that is taken: else refusal 1
   pub output : List ℕ
-  pub roomy : Bool
-  -- the arguments are in range: else refusal 3
-  pub inRange : Bool
+  pub lengths : Bool
+  -- its own refusals, in their order: tests of its arguments, on the screen
+  pub own : Screen → List (ℕ × Bool)
   pub apply : Screen → Screen
-  -- the text handed out
+  -- the text handed out, and the number answered
   pub submitted : Screen → List ℕ
+  pub answer : Screen → ℕ
 
--- a call with no output and no text; ok says that its arguments are in range
-abbrev pub given : Bool → (Screen → Screen) → Rule
-given ok f = record { output = []; roomy = true; inRange = ok; apply = f; submitted = λ s. [] }
+-- a call with no output, no text and the answer 0
+abbrev pub plain : (Screen → List (ℕ × Bool)) → (Screen → Screen) → Rule
+plain own f = record { output = []; lengths = true; own = own; apply = f; submitted = λ s. []; answer = λ s. 0 }
 
 abbrev pub always : (Screen → Screen) → Rule
-always f = given true f
+always f = plain (λ s. []) f
+
+-- ok says that its arguments are in range
+abbrev pub given : Bool → (Screen → Screen) → Rule
+given ok f = plain (λ s. (3, ok) ∷ []) f
+
+-- a call that hands out a text in an output of at least room bytes, and answers its length
+abbrev pub handing : List ℕ → ℕ → (Screen → List ℕ) → (Screen → Screen) → Rule
+handing out room text f =
+    record { output = out; lengths = leb room (length out); own = λ s. []; apply = f; submitted = text; answer = λ s. length (text s) }
 
 unfoldable pub rule : Call → Rule
 rule (PrintBytes bs) = always (λ s. printBytes s bs)
@@ -52,8 +69,7 @@ rule EraseToEnd = always eraseToEnd
 rule EscapeLine = always escapeLine
 rule Tab = always tab
 rule CtrlEnter = always ctrlEnter
-rule (TakeLogicalLine out) =
-    record { output = out; roomy = leb MAX-LOGICAL (length out); inRange = true; apply = takeLine; submitted = lineText }
+rule (TakeLogicalLine out) = handing out MAX-LOGICAL lineText takeLogicalLine
 rule BreakLine = always breakLine
 rule MoveLeft = always (λ s. moveTo s (left (s .head .width) (s .head .cursor)))
 rule MoveRight = always (λ s. moveTo s (right (s .head .width) (editable (s .head .keys)) (s .head .cursor)))
@@ -73,11 +89,15 @@ rule (SetKeysOn v) = given (leb v 1) (setKeysOn v)
 unfoldable pub output : Call → List ℕ
 output c = rule c .output
 
-unfoldable pub roomy : Call → Bool
-roomy c = rule c .roomy
+unfoldable pub lengths : Call → Bool
+lengths c = rule c .lengths
 
-unfoldable pub inRange : Call → Bool
-inRange c = rule c .inRange
+unfoldable pub own : Call → Screen → List (ℕ × Bool)
+own c s = rule c .own s
+
+-- no refusal of its own
+unfoldable pub inRange : Call → Screen → Bool
+inRange c s = allPass (own c s)
 
 unfoldable pub apply : Call → Screen → Screen
 apply c s = rule c .apply s
@@ -85,14 +105,13 @@ apply c s = rule c .apply s
 unfoldable pub submitted : Call → Screen → List ℕ
 submitted c s = rule c .submitted s
 
--- ---- accepted calls
+unfoldable pub answer : Call → Screen → ℕ
+answer c s = rule c .answer s
+
+-- ---- an accepted call
 
 -- the serial goes up by 1, and the touched rows are those that differ
 unfoldable pub step : Call → State → State
 step c t =
     let s = apply c (t .screen) in
-    record { screen = s; serial = t .serial + 1; touched = touchedRows (t .screen .rows) (s .rows) }
-
-unfoldable pub steps : List Call → State → State
-steps [] t = t
-steps (c ∷ cs) t = steps cs (step c t)
+    record { screen = s; stamp = record { serial = t .stamp .serial + 1; touched = touchedRows (t .screen .rows) (s .rows) } }

@@ -5,8 +5,9 @@ use mathlib.Core.Bool.{Bool, false, _&&_}
 use mathlib.Core.List.{List, [], _∷_}
 use lib.ListN.{set}
 use lib.Dec.{ltb, eqb}
-use Rattle.grid.specs.Choice.{if_then_else_}
-use Rattle.grid.specs.Screen.{Screen, at, withRows, moveTo, rowAt, putCell, setFlag, scrolled, editable, blankRow, printable, isEmpty, trim}
+use Rattle.bytes.specs.Choice.{if_then_else_}
+use Rattle.grid.specs.Screen.{Screen, withRows, moveTo, rowAt, putCell, setFlag, scrolled, editable, blankRow, printable, isEmpty, trim}
+use Rattle.values.specs.Cursor.{at}
 use Rattle.line.specs.Line.{flagged, rowText}
 
 -- rows 1 to E - 1 move up with their flags, and row E - 1 is blank
@@ -23,13 +24,15 @@ nextRow s =
 unfoldable pub rowIsBlank : Screen → ℕ → Bool
 rowIsBlank s r = isEmpty (trim (rowText s r))
 
--- in column 0 of a blank row, below a flagged one, only the flag above is cleared
-unfoldable pub newline : Screen → Screen
-newline s =
+-- in column 0 of a blank row, below a flagged one
+unfoldable pub wrapped : Screen → Bool
+wrapped s =
     let r = s .head .cursor .row in
-    if eqb (s .head .cursor .col) 0 && (ltb 0 r && (flagged (s .rows) (r - 1) && rowIsBlank s r))
-    then withRows s (setFlag (s .rows) (r - 1) 0)
-    else nextRow s
+    eqb (s .head .cursor .col) 0 && (ltb 0 r && (flagged (s .rows) (r - 1) && rowIsBlank s r))
+
+-- there only the flag above is cleared
+unfoldable pub newline : Screen → Screen
+newline s = if wrapped s then withRows s (setFlag (s .rows) (s .head .cursor .row - 1) 0) else nextRow s
 
 -- a character at the cursor
 unfoldable pub writeCell : Screen → ℕ → Screen

@@ -4,47 +4,40 @@
 use Prim.Native.Nat.{ℕ, _≤_, _<_}
 use mathlib.Core.Path.{_≡_}
 use mathlib.Core.List.{List}
-use mathlib.Core.Logic.{_↔_, _≢_}
+use mathlib.Core.Logic.{_≢_}
 use lib.ListN.{length}
-use Rattle.grid.specs.Answer.{refused, over, wrote}
+use Rattle.bytes.specs.Answer.{refused, over, wrote}
+use Rattle.bytes.specs.Refusals.{Refuses}
 use Rattle.grid.specs.Layout.{SIZE}
 use Rattle.grid.specs.Screen.{Screen, newState}
 use Rattle.grid.specs.Record.{serialOf, screenOf, readState, stateBytes}
 use Rattle.grid.specs.Facts.{Valid}
-use Rattle.editor.specs.Call.{Call, output, submitted, step}
+use Rattle.editor.specs.Call.{Call, output, submitted, answer, step}
 use Rattle.editor.specs.Call.Call.{TypeChar, TakeLogicalLine, SetWidth, SetInsert, SetAttr, SetKeysOn}
-use Rattle.editor.specs.Outcome.{changing, creating, Query, answer, asking, TextCall, textOf, texting}
+use Rattle.editor.specs.Outcome.{changing, creating, Query, value, asking, TextCall, textOf, texting}
 use Rattle.editor.specs.Outcome.Query.{AskCell, AskContinues}
 use Rattle.editor.specs.Outcome.TextCall.{LogicalText, Snapshot}
 
--- ---- the number that a call answers, where C k says that condition k holds
-
-pub record Refuses (C : ℕ → Type 0) (number : ℕ) : Type 0 where
-  -- it is that of refusal k exactly when condition k holds and none before it
-  pub refusal : (k : ℕ) → (number ≡ refused k) ↔ (C k × ((j : ℕ) → j < k → ¬ C j))
-  -- it is below that of every refusal exactly when none holds
-  pub accepted : (number < refused 1) ↔ ((k : ℕ) → ¬ C k)
-
 -- ---- changing calls
 
--- the line output is under 255
-pub data ShortOutput : Call → Type 0 where
-  line : {out : List ℕ} → length out < 255 → ShortOutput (TakeLogicalLine out)
+-- a lent slice beside the record has a length that is not taken: the line output is under 255
+pub data WrongLength : Call → Type 0 where
+  line : {out : List ℕ} → length out < 255 → WrongLength (TakeLogicalLine out)
 
--- a character or attribute above 255, a switch above 1, a width neither 40 nor 80
-pub data OutOfRange : Call → Type 0 where
-  character : {ch : ℕ} → 255 < ch → OutOfRange (TypeChar ch)
-  attribute : {a : ℕ} → 255 < a → OutOfRange (SetAttr a)
-  insert : {v : ℕ} → 1 < v → OutOfRange (SetInsert v)
-  keys : {v : ℕ} → 1 < v → OutOfRange (SetKeysOn v)
-  width : {w : ℕ} → w ≢ 40 → w ≢ 80 → OutOfRange (SetWidth w)
+-- an argument is refused, each with its number: a character or attribute above 255, a switch above 1, a width neither 40 nor 80
+pub data ArgumentRefused (s : Screen) : Call → ℕ → Type 0 where
+  character : {ch : ℕ} → 255 < ch → ArgumentRefused s (TypeChar ch) 3
+  attribute : {a : ℕ} → 255 < a → ArgumentRefused s (SetAttr a) 3
+  insert : {v : ℕ} → 1 < v → ArgumentRefused s (SetInsert v) 3
+  keys : {v : ℕ} → 1 < v → ArgumentRefused s (SetKeysOn v) 3
+  width : {w : ℕ} → w ≢ 40 → w ≢ 80 → ArgumentRefused s (SetWidth w) 3
 
 -- the conditions under which a changing call is refused, each with its number; so have the other kinds of call
 pub data ChangeRefused (c : Call) (l : List ℕ) : ℕ → Type 0 where
   record-length : length l ≢ SIZE → ChangeRefused c l 1
-  output-length : ShortOutput c → ChangeRefused c l 1
+  lent-length : WrongLength c → ChangeRefused c l 1
   layout : ¬ Valid l → ChangeRefused c l 2
-  argument : OutOfRange c → ChangeRefused c l 3
+  argument : {k : ℕ} → ArgumentRefused (screenOf l) c k → ChangeRefused c l k
   last-serial : serialOf l ≡ 4294967295 → ChangeRefused c l 4
 
 pub record ChangingAnswers (c : Call) (l : List ℕ) : Type 0 where
@@ -54,7 +47,7 @@ pub record ChangingAnswers (c : Call) (l : List ℕ) : Type 0 where
   -- accepted, it does what the rules say
   pub done : changing c l .number < refused 1 → changing c l
       ≡ record {
-        number = length (submitted c (screenOf l));
+        number = answer c (screenOf l);
         rec = stateBytes (step c (readState l));
         out = over (submitted c (screenOf l)) (output c);
       }
@@ -84,7 +77,7 @@ pub data QueryRefused (q : Query) (l : List ℕ) : ℕ → Type 0 where
 
 pub record AskingAnswers (q : Query) (l : List ℕ) : Type 0 where
   pub number : Refuses (QueryRefused q l) (asking q l)
-  pub done : asking q l < refused 1 → asking q l ≡ answer q (screenOf l)
+  pub done : asking q l < refused 1 → asking q l ≡ value q (screenOf l)
 
 -- ---- text calls
 

@@ -1,15 +1,12 @@
-// The text screen of document 01, from "Printing" to "Motion, modes", and its texts: what each of the 24 changing calls does to a record.
+// The text screen of document 01: the rules of all calls (`specs/`), and the code of "Printing" and "Typing and line keys". The code of motion, modes and
+// texts is the crate `moves`.
 //
 // Promised: on any valid record, the rows and the head afterwards are those of the call's rule (`specs/Call`), which is again a valid screen
-// (`proofs/KeptCall`); the texts are those of `specs/Text`.
+// (`proofs/KeptCall`).
 //
-// A function here that does a call's work gets a valid record and hands the new head back: it writes rows, never the front. One that reads what it
-// overwrites gets a copy `old` of the record too.
+// A function here that does a call's work gets a valid record and hands the new head back: it writes rows, and leaves the front to its caller. One that
+// reads what it overwrites gets a copy `old` of the record too. Only `tab` writes a front, between two of the spaces that it types, with the record's own stamp.
 pub mod lines;
-pub mod modes;
-pub mod motion;
 pub mod print;
 pub mod tab;
-pub mod text;
 pub mod typing;
-pub mod words;

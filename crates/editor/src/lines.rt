@@ -1,28 +1,38 @@
-// The keys that end or join logical lines, and the end of a line.
-use crate::motion::head_of;
-use crate::motion::with_cursor;
+// The keys that take out, join, submit or end a logical line.
 use crate::print::next_row;
 use crate::print::row_is_blank;
-use grid::cursor::Cursor;
 use grid::head;
 use grid::head::Head;
 use grid::row;
+use line::head::head_of;
 use line::reading::Reading;
 use line::reading::read_stripped;
 use line::span::Span;
 use line::span::span_at;
+use line::splice::remove_line;
 use line::text::MAX_LOGICAL;
+use values::cursor::Cursor;
 ghost use mathlib.Core.Path.{_≡_};
-ghost use Prim.Native.Nat.{_+_, _<_};
+ghost use Prim.Native.Nat.{_+_, _<_, _-_};
+ghost use mathlib.Core.Bool.{_&&_};
 ghost use Rattle.grid.specs.Screen.{editable};
-ghost use Rattle.grid.specs.Record.{screenOf, Leaves, Moves};
+ghost use Rattle.grid.specs.Record.{screenOf, Leaves};
 ghost use Rattle.grid.specs.Facts.{Valid};
 ghost use Rattle.line.specs.Line.{lineText};
 ghost use Rattle.line.specs.Given.{Known, SpanIs};
 ghost use Rattle.line.specs.Text.{Reads};
-ghost use Rattle.editor.specs.Typing.{takeLine};
-ghost use Rattle.editor.specs.Call.{CtrlEnter, EndOfLine, apply};
-ghost use Rattle.editor.specs.Given.{Copied, tooLong, onBlankEnd};
+ghost use Rattle.editor.specs.Lines.{takeLogicalLine, tooLong, onBlankEnd};
+ghost use Rattle.editor.specs.Call.{CtrlEnter, apply, BreakLine, EscapeLine};
+ghost use Rattle.editor.specs.Given.{Copied};
+
+pub fn escape_line(rec: &mut [u8], old: &[u8]) -> Head
+    requires { ⌜ Copied (now rec) (now old) ⌝ }
+    ensures { λ g. ⌜ Leaves (apply EscapeLine (screenOf (now (old .entry)))) (now (rec .entry)) (now (rec .exit)) g ⌝ }
+{
+    let h = head::read_head(old);
+    let span = span_at(old, h, h.cursor.row);
+    remove_line(rec, old, h, span)
+}
 
 // Is the cursor's row its span's last, and would the line be too long with the next one?
 fn too_long(rec: &[u8], h: Head) -> bool
@@ -52,7 +62,7 @@ pub fn ctrl_enter(rec: &mut [u8], old: &[u8]) -> Head
         return h;
     }
     row::set_flag(rec, r, 1);
-    with_cursor(h, Cursor::new(r + 1, 0))
+    h.with_cursor(Cursor::new(r + 1, 0))
 }
 
 // Does the cursor stand in column 0 of an all-space row, the last of a longer span?
@@ -71,9 +81,9 @@ fn on_blank_end(rec: &[u8], h: Head, span: Span) -> bool
 }
 
 // What `take_logical_line` leaves; its answer is `line_text`.
-pub fn take_line(rec: &mut [u8], old: &[u8]) -> Head
+pub fn take_logical_line(rec: &mut [u8], old: &[u8]) -> Head
     requires { ⌜ Copied (now rec) (now old) ⌝ }
-    ensures { λ g. ⌜ Leaves (takeLine (screenOf (now (old .entry)))) (now (rec .entry)) (now (rec .exit)) g ⌝ }
+    ensures { λ g. ⌜ Leaves (takeLogicalLine (screenOf (now (old .entry)))) (now (rec .entry)) (now (rec .exit)) g ⌝ }
 {
     let h = head_of(old);
     let span = span_at(old, h, h.cursor.row);
@@ -82,7 +92,7 @@ pub fn take_line(rec: &mut [u8], old: &[u8]) -> Head
         row::set_flag(rec, end - 1, 0);
         return h;
     }
-    next_row(rec, with_cursor(h, Cursor::new(end, 0)))
+    next_row(rec, h.with_cursor(Cursor::new(end, 0)))
 }
 
 // The reading of the line under the cursor.
@@ -95,19 +105,10 @@ pub fn line_text(rec: &[u8]) -> Reading
     read_stripped(rec, h, span.start, span.end)
 }
 
-pub fn end_of_line(rec: &[u8]) -> Head
+pub fn break_line(rec: &mut [u8]) -> Head
     requires { ⌜ Valid (now rec) ⌝ }
-    ensures { λ g. ⌜ Moves (apply EndOfLine (screenOf (now (rec .entry)))) (now (rec .entry)) g ⌝ }
+    ensures { λ h. ⌜ Leaves (apply BreakLine (screenOf (now (rec .entry)))) (now (rec .entry)) (now (rec .exit)) h ⌝ }
 {
-    let h = head_of(rec);
-    let span = span_at(rec, h, h.cursor.row);
-    let t = read_stripped(rec, h, span.start, span.end);
-    let w = h.width;
-    let n = t.len;
-    let r = span.start + n / w;
-    let e = head::editable_rows(h.keys);
-    if r < e {
-        return with_cursor(h, Cursor::new(r, n % w));
-    }
-    with_cursor(h, Cursor::new(e - 1, w - 1))
+    let h = head::read_head(rec);
+    next_row(rec, h)
 }

@@ -1,25 +1,24 @@
 // Printing: bytes written at the cursor, from row to row, and the step to the next row.
 //
 // While a call prints, the head goes from hand to hand and the rows change in the record, whose own head stays as it was.
-use crate::motion::with_cursor;
-use grid::cursor::Cursor;
 use grid::head;
 use grid::head::Head;
 use grid::row;
 use grid::valid;
+use values::cursor::Cursor;
 ghost use mathlib.Core.Path.{_≡_};
 ghost use mathlib.Core.Bool.{_&&_};
 ghost use Prim.Native.Nat.{_-_, _≤_, _<_};
 ghost use lib.Dec.{ltb, eqb};
 ghost use lib.ListN.{length, take};
-ghost use Rattle.grid.specs.Choice.{if_then_else_};
+ghost use Rattle.bytes.specs.Choice.{if_then_else_};
 ghost use Rattle.grid.specs.Layout.{SIZE};
-ghost use Rattle.grid.specs.Screen.{isEmpty, isSpace, trim, withCursor, setFlag};
+ghost use Rattle.grid.specs.Screen.{isEmpty, isSpace, trim, setFlag};
 ghost use Rattle.grid.specs.Record.{rowOf, rowsOf, screenOf, Leaves};
 ghost use Rattle.grid.specs.Facts.{HeadFacts, Valid};
 ghost use Rattle.line.specs.Line.{flagged};
-ghost use Rattle.editor.specs.Print.{rowIsBlank, nextRow, newline, putChar, printByte};
-ghost use Rattle.editor.specs.Call.{PrintBytes, BreakLine, apply};
+ghost use Rattle.editor.specs.Print.{wrapped, nextRow, newline, putChar, printByte};
+ghost use Rattle.editor.specs.Call.{PrintBytes, apply};
 
 fn not_space(c: u8) -> u8
     ensures { λ k. ⌜ (k ≡ (if isSpace c then 0 else 1)) × (k ≤ 1) ⌝ }
@@ -49,17 +48,17 @@ pub fn next_row(rec: &mut [u8], h: Head) -> Head
     let r = h.cursor.row;
     let e = head::editable_rows(h.keys);
     if r + 1 < e {
-        return with_cursor(h, Cursor::new(r + 1, 0));
+        return h.with_cursor(Cursor::new(r + 1, 0));
     }
     let attr = h.attr;
     row::scroll_up(rec, e, h.width, attr);
-    with_cursor(h, Cursor::new(r, 0))
+    h.with_cursor(Cursor::new(r, 0))
 }
 
 // Does the cursor stand in column 0 of a blank row, below a flagged one?
 fn wrapped(rec: &[u8], h: Head) -> bool
     requires { ⌜ (length (now rec) ≡ SIZE) × HeadFacts h ⌝ }
-    ensures { λ t. ⌜ t ≡ (eqb (h .cursor .col) 0 && (ltb 0 (h .cursor .row) && (flagged (rowsOf (now (rec .entry))) (h .cursor .row - 1) && rowIsBlank (record { head = h; rows = rowsOf (now (rec .entry)) }) (h .cursor .row)))) ⌝ }
+    ensures { λ t. ⌜ t ≡ wrapped (record { head = h; rows = rowsOf (now (rec .entry)) }) ⌝ }
 {
     let r = h.cursor.row;
     if h.cursor.col != 0 {
@@ -105,7 +104,7 @@ fn put_print_char(rec: &mut [u8], h: Head, ch: u8) -> Head
     let attr = h.attr;
     row::put_cell(rec, r, c, ch, attr);
     if c + 1 < h.width {
-        return with_cursor(h, Cursor::new(r, c + 1));
+        return h.with_cursor(Cursor::new(r, c + 1));
     }
     wrap(rec, h)
 }
@@ -144,12 +143,4 @@ pub fn print_bytes(rec: &mut [u8], bytes: &[u8]) -> Head
         i += 1;
     }
     h
-}
-
-pub fn break_line(rec: &mut [u8]) -> Head
-    requires { ⌜ Valid (now rec) ⌝ }
-    ensures { λ h. ⌜ Leaves (apply BreakLine (screenOf (now (rec .entry)))) (now (rec .entry)) (now (rec .exit)) h ⌝ }
-{
-    let h = head::read_head(rec);
-    next_row(rec, h)
 }

@@ -1,21 +1,20 @@
 // Tab: spaces typed while insert is on, else a move.
-use crate::motion::head_of;
-use crate::motion::with_cursor;
 use crate::typing::type_char;
-use grid::cursor::Cursor;
 use grid::head;
 use grid::head::Head;
 use grid::row;
+use line::head::head_of;
+use values::cursor::Cursor;
 ghost use Prim.Native.Nat.{_<_};
 ghost use mathlib.Core.Path.{_≡_};
 ghost use mathlib.Core.List.{_++_};
 ghost use lib.ListN.{length, drop};
 ghost use Rattle.grid.specs.Layout.{SIZE, FLAGS};
-ghost use Rattle.grid.specs.Record.{screenOf, serialOf, touchedOf, frontBytes};
+ghost use Rattle.grid.specs.Record.{screenOf, stampOf, frontBytes};
 ghost use Rattle.grid.specs.Facts.{HeadFacts, HeadFits, Valid};
-ghost use Rattle.editor.specs.Typing.{sameCursor, typeSpaces, nextStop};
+ghost use Rattle.editor.specs.Tab.{sameCursor, typeSpaces, nextStop, tabbed};
 ghost use Rattle.editor.specs.Call.{Tab, apply};
-ghost use Rattle.editor.specs.Given.{SpaceTyped, Ends, tabbed};
+ghost use Rattle.editor.specs.Given.{SpaceTyped, Ends};
 
 fn same_cursor(a: Cursor, b: Cursor) -> bool
     ensures { λ t. ⌜ t ≡ sameCursor a b ⌝ }
@@ -23,22 +22,21 @@ fn same_cursor(a: Cursor, b: Cursor) -> bool
     a.row == b.row && a.col == b.col
 }
 
-// Writes the head g, with the serial and the touched rows of old.
+// Writes the head g, with the stamp of old.
 fn put_head(rec: &mut [u8], old: &[u8], g: Head)
     requires { ⌜ (length (now rec) ≡ SIZE) × (length (now old) ≡ SIZE) × HeadFits g ⌝ }
-    ensures { λ _. ⌜ now (rec .exit) ≡ frontBytes g (serialOf (now (old .entry))) (touchedOf (now (old .entry))) ++ drop FLAGS (now (rec .entry)) ⌝ }
+    ensures { λ _. ⌜ now (rec .exit) ≡ frontBytes g (stampOf (now (old .entry))) ++ drop FLAGS (now (rec .entry)) ⌝ }
 {
-    let serial = head::read_serial(old);
-    let touched = head::read_touched(old);
-    head::write_front(rec, g, serial, touched);
+    let stamp = head::read_stamp(old);
+    head::write_front(rec, g, stamp);
 }
 
-// One space typed, after which the record is valid again: its head goes into it, with the serial and the touched rows that it had.
+// One space typed, after which the record is valid again: its head goes into it, with the stamp that it had.
 fn type_space(rec: &mut [u8]) -> Head
     requires { ⌜ Valid (now rec) ⌝ }
     ensures { λ g. ⌜ SpaceTyped (now (rec .entry)) (now (rec .exit)) g ⌝ }
 {
-    let old = row::snapshot(rec);
+    let old = row::copy_of(rec);
     let g = type_char(rec, &old, b' ');
     put_head(rec, &old, g);
     g
@@ -95,5 +93,5 @@ pub fn tab(rec: &mut [u8]) -> Head
     if h.insert == 1 {
         return type_spaces(rec, next_stop(c) - c);
     }
-    with_cursor(h, tab_cursor(h))
+    h.with_cursor(tab_cursor(h))
 }

@@ -4,7 +4,6 @@ use grid::head::Head;
 use line::content::content_and_cursor;
 use line::span::Span;
 use line::span::span_at;
-use line::splice::remove_line;
 use line::splice::splice_logical;
 use line::text::MAX_LOGICAL;
 use line::text::Text;
@@ -12,7 +11,7 @@ ghost use Rattle.grid.specs.Record.{screenOf, Leaves};
 ghost use Rattle.line.specs.Given.{Begun, SpanIs};
 ghost use Rattle.line.specs.Text.{Sound, textOf};
 ghost use Rattle.editor.specs.Typing.{typeAt};
-ghost use Rattle.editor.specs.Call.{TypeChar, Backspace, DeleteChar, EraseToEnd, EscapeLine, apply};
+ghost use Rattle.editor.specs.Call.{TypeChar, Backspace, DeleteChar, EraseToEnd, apply};
 ghost use Rattle.editor.specs.Given.{Copied};
 
 // ch in the content t: inserted, over the character that stands at the cursor, or behind the last one.
@@ -84,13 +83,4 @@ pub fn erase_to_end(rec: &mut [u8], old: &[u8]) -> Head
     let span = span_at(old, h, h.cursor.row);
     let t = content_and_cursor(old, h, span);
     splice_logical(rec, old, h, span, t.cut())
-}
-
-pub fn escape_line(rec: &mut [u8], old: &[u8]) -> Head
-    requires { ⌜ Copied (now rec) (now old) ⌝ }
-    ensures { λ g. ⌜ Leaves (apply EscapeLine (screenOf (now (old .entry)))) (now (rec .entry)) (now (rec .exit)) g ⌝ }
-{
-    let h = head::read_head(old);
-    let span = span_at(old, h, h.cursor.row);
-    remove_line(rec, old, h, span)
 }

@@ -4,42 +4,24 @@ use Prim.Native.Nat.{ℕ, zero, suc, _+_, _*_, _/_, _%_, _≤_, _<_}
 use mathlib.Core.Path.{_≡_, refl, sym, ap, _∙_}
 use mathlib.Core.Bool.{true}
 use mathlib.Core.List.{List, [], _∷_, _++_}
-use native.Mathlib.Nat.{div-add-mod'}
 use native.Mathlib.Omega.{arith}
 use lib.ListN.{length, getD, take, drop, length-append, length-drop, List·getD-append}
 use lib.Seq.{take-at, take-append-le, drop-append-le, drop-append-add, getD-append-add, ext-getD}
-use lib.Pow.{shr-shr}
-use borrow.Author.Tests.{lt-ltb, ltb-true}
-use Rattle.grid.specs.Layout.{SIZE, WIDTH, CURSOR_ROW, CURSOR_COL, INSERT, KEYS_ON, ATTR, SERIAL, TOUCHED, FLAGS, CHARS, ATTRS, MASKS}
-use Rattle.grid.specs.declared.attr.Attr.{Attr}
-use Rattle.grid.specs.declared.head.Head.{Head}
-use Rattle.grid.specs.Screen.{Row, State, noRow, rowAt, every, validRow, validScreen}
-use Rattle.grid.specs.Record.{number4, fourAt, window, tabulate, rowOf, rowsOf, headOf, serialOf, touchedOf, screenOf, readState, flagBytes, blocks, charBytes, attrBytes, rowsBytes, frontBytes, stateBytes, frontb, validb}
-use Rattle.grid.specs.Facts.{isByte, RowFacts, RowsFacts, ScreenFacts, StateFacts, Valid}
-use Rattle.grid.proofs.Bools.{and-left, and-right, tests, every-at}
-use Rattle.grid.proofs.Nibbles.{attr-back, byte-back}
+use borrow.Author.Tests.{lt-ltb}
+use Rattle.grid.specs.Layout.{SIZE, HEAD, SERIAL, TOUCHED, FLAGS, CHARS, ATTRS, MASKS}
+use Rattle.grid.specs.Screen.{Row, State, noRow, rowAt, validRow, validScreen, withAttr}
+use Rattle.bytes.specs.Test.{every, isByte}
+use Rattle.bytes.specs.Number.{fourAt}
+use Rattle.bytes.specs.Part.{window}
+use Rattle.bytes.specs.Table.{tabulate}
+use Rattle.grid.specs.Record.{rowOf, rowsOf, headOf, serialOf, touchedOf, screenOf, readState, flagBytes, blocks, charBytes, attrBytes, rowsBytes, frontBytes, stateBytes, frontb, validb, headAt, stampOf}
+use Rattle.grid.specs.Facts.{RowFacts, RowsFacts, ScreenFacts, StateFacts, Valid}
+use Rattle.bytes.proofs.Bools.{and-left, and-right, tests}
+use Rattle.values.proofs.AttrLaws.{attr-back, byte-back}
 use Rattle.grid.proofs.Record.{rows-bytes, heads-eq}
-use Rattle.grid.proofs.Rows.{length-tabulate, getD-tabulate}
+use Rattle.bytes.proofs.Tables.{length-tabulate, getD-tabulate}
 use Rattle.grid.proofs.Validity.{row-facts, screen-facts}
-
--- ---- numbers of four bytes
-
--- omega reads one quotient at a time
-sum4 : (n x y z a b c : ℕ) → x * 256 + a ≡ n → y * 256 + b ≡ x → z * 256 + c ≡ y → z * 16777216 + c * 65536 + b * 256 + a ≡ n
-sum4 n x y z a b c p q r = omega arith
-
-pub whole4 : (n : ℕ) → n < 4294967296 → n / 16777216 % 256 * 16777216 + n / 65536 % 256 * 65536 + n / 256 % 256 * 256 + n % 256 ≡ n
-whole4 n h =
-    let d : n / 256 / 256 ≡ n / 65536 = shr-shr n 8 8 in
-    let e : n / 65536 / 256 ≡ n / 16777216 = shr-shr n 16 8 in
-    let t : n / 16777216 % 256 ≡ n / 16777216 = omega arith in
-    rw t
-    (sum4 n (n / 256) (n / 65536) (n / 16777216) _ _ _ (div-add-mod' n 256) (rw d at (div-add-mod' (n / 256) 256))
-    (rw e at (div-add-mod' (n / 65536) 256)))
-
--- the same head with another attribute
-abbrev withAttr : Head → Attr → Head
-withAttr h a = record { width = h .width; cursor = h .cursor; insert = h .insert; keys = h .keys; attr = a }
+use Rattle.bytes.proofs.NumberLaws.{isByte-lt, four-back, whole4}
 
 -- ---- the rows' bytes
 
@@ -141,47 +123,33 @@ module _ (t : State) (v : StateFacts t) where
   facts = screen-facts (t .screen) (v .screen)
 
   pub state-back : readState (stateBytes t) ≡ t
-  unfolding readState stateBytes frontBytes headOf serialOf touchedOf
+  unfolding readState stateBytes frontBytes headOf headAt stampOf serialOf touchedOf
   state-back =
-      let front = frontBytes (t .screen .head) (t .serial) (t .touched) in
+      let front = frontBytes (t .screen .head) (t .stamp) in
       let r = rows-back front _ (t .screen .rows) refl (facts .rows) in
-      let n = whole4 (t .serial) (v .serial) in
-      let m = whole4 (t .touched) (omega arith) in
+      let n = whole4 (t .stamp .serial) (v .serial) in
+      let m = whole4 (t .stamp .touched) (omega arith) in
       let a = attr-back (t .screen .head .attr) (facts .head .foreground) (facts .head .background) in
-      λ i. record { screen = record { head = withAttr (t .screen .head) (a i); rows = r i }; serial = n i; touched = m i }
+      λ i. record { screen = record { head = withAttr (t .screen .head) (a i); rows = r i }; stamp = record { serial = n i; touched = m i } }
 
   pub length-state : length (stateBytes t) ≡ SIZE
   unfolding stateBytes frontBytes
-  length-state = omega (arith, length-rows-bytes (frontBytes (t .screen .head) (t .serial) (t .touched)) _ (t .screen .rows) refl (facts .rows))
+  length-state = omega (arith, length-rows-bytes (frontBytes (t .screen .head) (t .stamp)) _ (t .screen .rows) refl (facts .rows))
 
-  pub serial-back : serialOf (stateBytes t) ≡ t .serial
+  pub serial-back : serialOf (stateBytes t) ≡ t .stamp .serial
   unfolding serialOf stateBytes frontBytes
-  serial-back = whole4 (t .serial) (v .serial)
+  serial-back = whole4 (t .stamp .serial) (v .serial)
 
   pub state-valid : validb (stateBytes t) ≡ true
-  unfolding validb frontb readState touchedOf
+  unfolding validb frontb readState stampOf touchedOf
   state-valid =
       let l = length-state in
-      let m : touchedOf (stateBytes t) ≡ t .touched = ap (λ (x : State). x .touched) state-back in
+      let m : touchedOf (stateBytes t) ≡ t .stamp .touched = ap (λ (x : State). x .stamp .touched) state-back in
       let a = lt-ltb (touchedOf (stateBytes t)) MASKS (omega arith) in
       let s : validScreen (screenOf (stateBytes t)) ≡ true = ap (λ (x : State). validScreen (x .screen)) state-back ∙ v .screen in
       unfold stateBytes frontBytes in search tests depth 8
 
 -- ---- and the other way round: a valid record's bytes are those of the state that it holds
-
-pub isByte-lt : (l : List ℕ) (i : ℕ) → every isByte l ≡ true → i < length l → getD l i 0 < 256
-unfolding isByte
-isByte-lt l i b h = ltb-true _ _ (every-at isByte l i 0 b h)
-
--- the four bytes of a number that four bytes make
-pub four-back : (a b c d : ℕ) → a < 256 → b < 256 → c < 256 → d < 256
-    → (number4 a b c d / 16777216 % 256 ≡ a) × (number4 a b c d / 65536 % 256 ≡ b) × (number4 a b c d / 256 % 256 ≡ c) × (number4 a b c d % 256 ≡ d)
-four-back a b c d ha hb hc hd =
-    let n : ℕ = number4 a b c d in
-    let e₁ : n / 256 ≡ a * 65536 + b * 256 + c = omega arith in
-    let e₂ : n / 65536 ≡ a * 256 + b = omega arith in
-    let e₃ : n / 16777216 ≡ a = omega arith in
-    (rw e₃ (omega arith), rw e₂ (omega arith), rw e₁ (omega arith), omega arith)
 
 module _ (l : List ℕ) (v : Valid l) (b : every isByte l ≡ true) where
   byte-at : (i : ℕ) → i < SIZE → getD l i 0 < 256
@@ -192,16 +160,16 @@ module _ (l : List ℕ) (v : Valid l) (b : every isByte l ≡ true) where
   four-at i h = four-back _ _ _ _ (byte-at i (omega arith)) (byte-at (i + 1) (omega arith)) (byte-at (i + 2) (omega arith)) (byte-at (i + 3) (omega arith))
 
   pub bytes-back : stateBytes (readState l) ≡ l
-  unfolding stateBytes readState frontBytes headOf serialOf touchedOf
+  unfolding stateBytes readState frontBytes headOf headAt stampOf serialOf touchedOf
   bytes-back =
       let s = four-at SERIAL (omega arith) in
       let t = four-at TOUCHED (omega arith) in
-      let a = byte-back (getD l ATTR 0) (byte-at ATTR (omega arith)) in
+      let a = byte-back (getD l (HEAD + 5) 0) (byte-at (HEAD + 5) (omega arith)) in
       let r = rows-bytes l (v .size) in
       let high = sym (v .length-high) in
       let low = sym (v .length-low) in
       let version = sym (v .version) in
       (λ i.
-      high i ∷ low i ∷ version i ∷ getD l WIDTH 0 ∷ getD l CURSOR_ROW 0 ∷ getD l CURSOR_COL 0 ∷ getD l INSERT 0
-      ∷ getD l KEYS_ON 0 ∷ a i ∷ s .0 i ∷ s .1 i ∷ s .2 i ∷ s .3 i ∷ t .0 i ∷ t .1 i ∷ t .2 i ∷ t .3 i ∷ r i)
+      high i ∷ low i ∷ version i ∷ getD l HEAD 0 ∷ getD l (HEAD + 1) 0 ∷ getD l (HEAD + 2) 0 ∷ getD l (HEAD + 3) 0
+      ∷ getD l (HEAD + 4) 0 ∷ a i ∷ s .0 i ∷ s .1 i ∷ s .2 i ∷ s .3 i ∷ t .0 i ∷ t .1 i ∷ t .2 i ∷ t .3 i ∷ r i)
       ∙ heads-eq FLAGS 0 l (omega (arith, v .size))

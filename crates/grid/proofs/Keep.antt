@@ -9,12 +9,15 @@ use native.Mathlib.Omega.{arith}
 use lib.ListN.{length, take, drop, set, replicate, length-append, length-take, length-drop, length-set, length-replicate}
 use lib.Dec.{eqb}
 use lib.Seq.{take-at, drop-at, drop-set-lt}
-use Rattle.grid.specs.declared.attr.Attr.{Attr}
-use Rattle.grid.specs.Screen.{Row, Screen, byteOf, normal, every, printable, zerob, padded, spaced, blankRow, lineRow, rowAt, flagRow, setFlag, newHead, newScreen, validRow}
+use Rattle.values.specs.declared.attr.Attr.{Attr}
+use Rattle.grid.specs.Screen.{Row, Screen, printable, padded, spaced, blankRow, lineRow, rowAt, flagRow, setFlag, newHead, newScreen, validRow}
+use Rattle.values.specs.Attr.{byteOf, normal}
+use Rattle.bytes.specs.Test.{every, zerob}
 use Rattle.grid.specs.Facts.{HeadFacts, RowFacts, RowsFacts, ScreenFacts}
-use Rattle.grid.proofs.Bools.{cases, every-both, every-cons, every-take, every-drop, every-at, every-set, every-replicate}
-use Rattle.grid.proofs.Rows.{length-padded}
-use Rattle.grid.proofs.Validity.{width-from, width-to, editable-from, head-is, row-facts, row-valid}
+use Rattle.bytes.proofs.Bools.{cases, every-both, every-cons, every-take, every-drop, every-at, every-set, every-replicate}
+use Rattle.grid.proofs.RowLaws.{length-padded}
+use Rattle.bytes.proofs.WidthLaws.{width-from, width-to}
+use Rattle.grid.proofs.Validity.{editable-from, head-is, row-facts, row-valid}
 
 -- ---- lists of rows: the count goes along, so that in the end it is one `omega`
 

@@ -8,7 +8,7 @@ use native.Mathlib.Omega.{arith}
 use lib.ListN.{length, getD, take}
 use lib.Seq.{take-suc, length-take-le}
 use borrow.Author.Tests.{eq-eqb, ne-eqb}
-use Rattle.grid.specs.Choice.{if_then_else_}
+use Rattle.bytes.specs.Choice.{if_then_else_}
 use Rattle.grid.specs.Screen.{isEmpty, trimBy, isSpace, trim}
 
 module _ (p : ℕ → Bool) where

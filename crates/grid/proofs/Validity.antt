@@ -4,29 +4,17 @@ use Prim.Native.Nat.{ℕ, _≤_, _<_}
 use mathlib.Core.Path.{_≡_}
 use mathlib.Core.Bool.{true}
 use mathlib.Core.List.{List}
-use mathlib.Core.Logic.{_⊎_, inl, inr, ⊎-elim}
+use mathlib.Core.Logic.{_⊎_}
 use native.Mathlib.Omega.{arith}
-use lib.Dec.{eqb}
 use borrow.Author.Tests.{ltb-true, leb-true, eqb-true, lt-ltb, le-leb, eq-eqb}
-use Rattle.grid.specs.Screen.{Row, Screen, editable, widthb, validAttr, validHead, validRow, validScreen}
+use Rattle.grid.specs.Screen.{Row, Screen, editable, validAttr, validHead, validRow, validScreen}
 use Rattle.grid.specs.Record.{screenOf, frontb, validb}
 use Rattle.grid.specs.Facts.{HeadFacts, HeadFits, RowFacts, ScreenFacts, Valid}
 use Rattle.grid.specs.declared.head.Head.{Head}
-use Rattle.grid.proofs.Bools.{and-left, and-right, and-both, or-cases, either}
+use Rattle.bytes.proofs.Bools.{and-left, and-right, and-both, either}
+use Rattle.bytes.proofs.WidthLaws.{width-from, cases-width, width-to, width-cases}
 
 -- ---- a screen's two widths and its two numbers of editable rows
-
-pub width-cases : (w : ℕ) → widthb w ≡ true → (w ≡ 40) ⊎ (w ≡ 80)
-width-cases w e = ⊎-elim (λ q. inl (eqb-true w 40 q)) (λ q. inr (eqb-true w 80 q)) (or-cases (eqb w 40) (eqb w 80) e)
-
-pub cases-width : (w : ℕ) → (w ≡ 40) ⊎ (w ≡ 80) → widthb w ≡ true
-cases-width w c = ⊎-elim (λ (q : w ≡ 40). rw q) (λ (q : w ≡ 80). rw q) c
-
-pub width-from : (w : ℕ) → (w ≡ 40) ⊎ (w ≡ 80) → 40 ≤ w
-width-from w c = ⊎-elim (λ (q : w ≡ 40). omega arith) (λ (q : w ≡ 80). omega arith) c
-
-pub width-to : (w : ℕ) → (w ≡ 40) ⊎ (w ≡ 80) → w ≤ 80
-width-to w c = ⊎-elim (λ (q : w ≡ 40). omega arith) (λ (q : w ≡ 80). omega arith) c
 
 pub editable-from : (k : ℕ) → 24 ≤ editable k
 unfolding editable

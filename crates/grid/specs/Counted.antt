@@ -5,8 +5,9 @@ use mathlib.Core.Path.{_≡_}
 use mathlib.Core.Bool.{_&&_}
 use mathlib.Core.List.{List}
 use lib.Dec.{eqb}
-use Rattle.grid.specs.Screen.{every, printable, zerob}
-use Rattle.grid.specs.Record.{window}
+use Rattle.bytes.specs.Test.{every, zerob}
+use Rattle.grid.specs.Screen.{printable}
+use Rattle.bytes.specs.Part.{window}
 
 -- k is 0 where nothing is wrong with n cells of a row of 40 columns, and with the bytes 40 places behind them
 pub record Wrong (l : List ℕ) (chars attrs n k : ℕ) : Type 0 where

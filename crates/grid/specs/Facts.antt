@@ -3,13 +3,13 @@
 -- Assumes nothing.
 use Prim.Native.Nat.{ℕ, _/_, _%_, _≤_, _<_}
 use mathlib.Core.Path.{_≡_}
-use mathlib.Core.Bool.{Bool, true}
+use mathlib.Core.Bool.{true}
 use mathlib.Core.List.{List}
 use mathlib.Core.Logic.{_⊎_}
-use lib.Dec.{ltb}
 use lib.ListN.{length, getD, take, drop}
 use Rattle.grid.specs.Layout.{SIZE, VERSION, MASKS, SERIALS}
-use Rattle.grid.specs.Screen.{Row, Screen, State, every, printable, zerob, editable, validRow, validScreen}
+use Rattle.grid.specs.Screen.{Row, Screen, State, printable, editable, validRow, validScreen}
+use Rattle.bytes.specs.Test.{every, zerob}
 use Rattle.grid.specs.Record.{touchedOf, screenOf}
 use Rattle.grid.specs.declared.head.Head.{Head}
 
@@ -54,13 +54,9 @@ pub record RowFacts (w : ℕ) (x : Row) : Type 0 where
 
 -- what a screen record can hold
 pub record StateFacts (t : State) : Type 0 where
-  pub serial : t .serial < SERIALS
-  pub touched : t .touched < MASKS
+  pub serial : t .stamp .serial < SERIALS
+  pub touched : t .stamp .touched < MASKS
   pub screen : validScreen (t .screen) ≡ true
-
--- what a lent slice holds: numbers below 256
-unfoldable pub isByte : ℕ → Bool
-isByte b = ltb b 256
 
 -- what `validb` says
 pub record Valid (l : List ℕ) : Type 0 where

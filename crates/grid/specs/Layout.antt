@@ -9,23 +9,9 @@ SIZE = 4042
 abbrev pub VERSION : ℕ
 VERSION = 1
 
-abbrev pub WIDTH : ℕ
-WIDTH = 3
-
-abbrev pub CURSOR_ROW : ℕ
-CURSOR_ROW = 4
-
-abbrev pub CURSOR_COL : ℕ
-CURSOR_COL = 5
-
-abbrev pub INSERT : ℕ
-INSERT = 6
-
-abbrev pub KEYS_ON : ℕ
-KEYS_ON = 7
-
-abbrev pub ATTR : ℕ
-ATTR = 8
+-- width, cursor row, cursor column, insert, keys on, attribute
+abbrev pub HEAD : ℕ
+HEAD = 3
 
 abbrev pub SERIAL : ℕ
 SERIAL = 9

@@ -1,15 +1,20 @@
 -- Document 01, "The cell grid", as values: rows, the screen, what a record holds, the layout as one test, and the rows that differ.
--- `Cursor`, `Attr` and `Head` are the structs of `src/`.
+-- `Head` and `Stamp` are the structs of `src/head.rt`.
 -- Assumes nothing.
-use Prim.Native.Nat.{ℕ, _+_, _-_, _*_, _/_, _%_}
+use Prim.Native.Nat.{ℕ, _+_, _-_, _*_}
 use mathlib.Core.Bool.{Bool, true, false, not, _&&_, _||_}
 use mathlib.Core.List.{List, [], _∷_, _++_}
 use lib.ListN.{length, getD, take, drop, set, replicate}
 use lib.Dec.{leb, ltb, eqb}
-use Rattle.grid.specs.Choice.{if_then_else_}
-use Rattle.grid.specs.declared.attr.Attr.{Attr}
-use Rattle.grid.specs.declared.cursor.Cursor.{Cursor}
+use Rattle.bytes.specs.Choice.{if_then_else_}
+use Rattle.values.specs.declared.attr.Attr.{Attr}
+use Rattle.values.specs.declared.cursor.Cursor.{Cursor}
 use Rattle.grid.specs.declared.head.Head.{Head}
+use Rattle.grid.specs.declared.head.Stamp.{Stamp}
+use Rattle.bytes.specs.Test.{zerob, every}
+use Rattle.bytes.specs.Width.{widthb}
+use Rattle.values.specs.Attr.{normal, byteOf}
+use Rattle.values.specs.Cursor.{home}
 
 -- 80 characters and 80 attributes, of which the screen's width is in use and the rest is zero;
 -- flag 1: the next row goes on with this row's logical line
@@ -23,33 +28,27 @@ pub record Screen : Type 0 where
   pub head : Head
   pub rows : List Row
 
--- what a screen record holds
+-- what a screen record holds: the screen, and the serial and the touched rows
 pub record State : Type 0 where
   pub screen : Screen
-  pub serial : ℕ
-  pub touched : ℕ
+  pub stamp : Stamp
 
--- ---- attributes: foreground is the low nibble and background is the high nibble
+-- ---- the head with one field changed
 
-unfoldable pub attrOf : ℕ → Attr
-attrOf b = record { foreground = b % 16; background = b / 16 }
-
-unfoldable pub byteOf : Attr → ℕ
-byteOf a = a .background % 16 * 16 + a .foreground % 16
-
-abbrev pub normal : Attr
-normal = record { foreground = 7; background = 0 }
-
--- ---- the cursor
-
-abbrev pub at : ℕ → ℕ → Cursor
-at r c = record { row = r; col = c }
-
-abbrev pub home : Cursor
-home = at 0 0
+abbrev pub withWidth : Head → ℕ → Head
+withWidth h w = record { width = w; cursor = h .cursor; insert = h .insert; keys = h .keys; attr = h .attr }
 
 abbrev pub withCursor : Head → Cursor → Head
 withCursor h c = record { width = h .width; cursor = c; insert = h .insert; keys = h .keys; attr = h .attr }
+
+abbrev pub withInsert : Head → ℕ → Head
+withInsert h v = record { width = h .width; cursor = h .cursor; insert = v; keys = h .keys; attr = h .attr }
+
+abbrev pub withKeys : Head → ℕ → Head
+withKeys h v = record { width = h .width; cursor = h .cursor; insert = h .insert; keys = v; attr = h .attr }
+
+abbrev pub withAttr : Head → Attr → Head
+withAttr h a = record { width = h .width; cursor = h .cursor; insert = h .insert; keys = h .keys; attr = a }
 
 -- E, the editable rows: 24 with keys on, else 25
 unfoldable pub editable : ℕ → ℕ
@@ -91,12 +90,15 @@ setFlag rows r f = set rows r (flagRow f (rowAt rows r))
 unfoldable pub scrolled : List Row → ℕ → Row → List Row
 scrolled rows e blank = drop 1 (take e rows) ++ (blank ∷ drop e rows)
 
--- the same screen with other rows, and with the cursor elsewhere
+-- the same screen with other rows, with another head, and with the cursor elsewhere
 unfoldable pub withRows : Screen → List Row → Screen
 withRows s rows = record { head = s .head; rows = rows }
 
+abbrev pub withHead : Screen → Head → Screen
+withHead s h = record { head = h; rows = s .rows }
+
 unfoldable pub moveTo : Screen → Cursor → Screen
-moveTo s c = record { head = withCursor (s .head) c; rows = s .rows }
+moveTo s c = withHead s (withCursor (s .head) c)
 
 -- ---- a new screen: 40 gives 40, all else 80
 
@@ -107,7 +109,7 @@ unfoldable pub newScreen : ℕ → Screen
 newScreen w = record { head = newHead w; rows = replicate 25 (blankRow (newHead w .width) normal) }
 
 unfoldable pub newState : ℕ → State
-newState w = record { screen = newScreen w; serial = 0; touched = 0 }
+newState w = record { screen = newScreen w; stamp = record { serial = 0; touched = 0 } }
 
 -- ---- trailing spaces
 
@@ -128,19 +130,9 @@ trim cs = trimBy isSpace cs
 
 -- ---- the layout
 
-unfoldable pub every {ℓ} : {A : Type ℓ} → (A → Bool) → List A → Bool
-every p [] = true
-every p (x ∷ xs) = p x && every p xs
-
 -- what a cell may hold: 27 or at least 32
 unfoldable pub printable : ℕ → Bool
 printable c = eqb c 27 || leb 32 c
-
-unfoldable pub zerob : ℕ → Bool
-zerob c = eqb c 0
-
-abbrev pub widthb : ℕ → Bool
-widthb w = eqb w 40 || eqb w 80
 
 -- an attribute of two nibbles, so any byte
 unfoldable pub validAttr : Attr → Bool

@@ -1,9 +1,9 @@
 // A new screen's record.
-use crate::attr::Attr;
-use crate::cursor::Cursor;
 use crate::head;
 use crate::layout::SCREEN_ROWS;
 use crate::row;
+use values::attr::Attr;
+use values::cursor::Cursor;
 ghost use mathlib.Core.Path.{_≡_};
 ghost use lib.ListN.{length};
 ghost use Rattle.grid.specs.Layout.{SIZE};
@@ -31,5 +31,9 @@ pub fn new_screen(rec: &mut [u8], width: u32)
 {
     let h = new_head(width);
     row::blank_rows(rec, SCREEN_ROWS, h.width, Attr::NORMAL);
-    head::write_front(rec, h, 0, 0);
+    let stamp = head::Stamp {
+        serial: 0,
+        touched: 0,
+    };
+    head::write_front(rec, h, stamp);
 }

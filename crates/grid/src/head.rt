@@ -1,25 +1,21 @@
-// The front of a record, what stands before its rows: the head, the serial and the touched rows.
-use crate::attr::Attr;
-use crate::cursor::Cursor;
-use crate::layout::ATTR;
-use crate::layout::CURSOR_COL;
-use crate::layout::CURSOR_ROW;
-use crate::layout::INSERT;
-use crate::layout::KEYS_ON;
+// The front of a record, what stands before its rows: the head, and the stamp of the call that left it.
+use crate::layout::HEAD;
 use crate::layout::SERIAL;
 use crate::layout::SIZE;
 use crate::layout::TOUCHED;
 use crate::layout::VERSION;
-use crate::layout::WIDTH;
-use crate::part;
+use bytes::number;
+use values::attr::Attr;
+use values::cursor::Cursor;
 ghost use mathlib.Core.Path.{_≡_};
 ghost use Prim.Native.Nat.{_+_, _≤_};
 ghost use mathlib.Core.List.{_++_};
 ghost use lib.ListN.{length, drop};
-ghost use Rattle.grid.specs.Layout.{SIZE, WIDTH, FLAGS};
-ghost use Rattle.grid.specs.Screen.{editable};
+ghost use Rattle.bytes.specs.Part.{write};
+ghost use Rattle.grid.specs.Layout.{SIZE, FLAGS};
+ghost use Rattle.grid.specs.Screen.{editable, withWidth, withCursor, withInsert, withKeys, withAttr};
 ghost use Rattle.grid.specs.Facts.{HeadFits};
-ghost use Rattle.grid.specs.Record.{write, headOf, headBytes, number4, serialOf, touchedOf, frontBytes};
+ghost use Rattle.grid.specs.Record.{headAt, headOf, headBytes, serialOf, touchedOf, stampOf, frontBytes};
 
 pub struct Head {
     pub width: usize,
@@ -27,6 +23,82 @@ pub struct Head {
     pub insert: u8,
     pub keys: u8,
     pub attr: Attr,
+}
+
+// What a call leaves beside the screen: the record's serial and the rows that the call touched.
+pub struct Stamp {
+    pub serial: u32,
+    pub touched: u32,
+}
+
+impl Head {
+    pub fn with_width(self, width: usize) -> Head
+        ensures { λ g. ⌜ g ≡ withWidth self width ⌝ }
+    {
+        let cursor = self.cursor;
+        let attr = self.attr;
+        Head {
+            width: width,
+            cursor: cursor,
+            insert: self.insert,
+            keys: self.keys,
+            attr: attr,
+        }
+    }
+
+    pub fn with_cursor(self, cursor: Cursor) -> Head
+        ensures { λ g. ⌜ g ≡ withCursor self cursor ⌝ }
+    {
+        let attr = self.attr;
+        Head {
+            width: self.width,
+            cursor: cursor,
+            insert: self.insert,
+            keys: self.keys,
+            attr: attr,
+        }
+    }
+
+    pub fn with_insert(self, insert: u8) -> Head
+        ensures { λ g. ⌜ g ≡ withInsert self insert ⌝ }
+    {
+        let cursor = self.cursor;
+        let attr = self.attr;
+        Head {
+            width: self.width,
+            cursor: cursor,
+            insert: insert,
+            keys: self.keys,
+            attr: attr,
+        }
+    }
+
+    pub fn with_keys(self, keys: u8) -> Head
+        ensures { λ g. ⌜ g ≡ withKeys self keys ⌝ }
+    {
+        let cursor = self.cursor;
+        let attr = self.attr;
+        Head {
+            width: self.width,
+            cursor: cursor,
+            insert: self.insert,
+            keys: keys,
+            attr: attr,
+        }
+    }
+
+    pub fn with_attr(self, attr: Attr) -> Head
+        ensures { λ g. ⌜ g ≡ withAttr self attr ⌝ }
+    {
+        let cursor = self.cursor;
+        Head {
+            width: self.width,
+            cursor: cursor,
+            insert: self.insert,
+            keys: self.keys,
+            attr: attr,
+        }
+    }
 }
 
 // E: one less where the keys are on.
@@ -42,84 +114,78 @@ fn wide(x: u8) -> usize
     x as usize
 }
 
-pub fn read_head(rec: &[u8]) -> Head
-    requires { ⌜ length (now rec) ≡ SIZE ⌝ }
-    ensures { λ h. ⌜ h ≡ headOf (now (rec .entry)) ⌝ }
+// The head whose first byte stands at index at.
+pub fn head_at(src: &[u8], at: usize) -> Head
+    requires { ⌜ at + 6 ≤ length (now src) ⌝ }
+    ensures { λ h. ⌜ h ≡ headAt (now (src .entry)) at ⌝ }
 {
     Head {
-        width: wide(rec[WIDTH]),
+        width: wide(src[at]),
         cursor: Cursor {
-            row: wide(rec[CURSOR_ROW]),
-            col: wide(rec[CURSOR_COL]),
+            row: wide(src[at + 1]),
+            col: wide(src[at + 2]),
         },
-        insert: rec[INSERT],
-        keys: rec[KEYS_ON],
-        attr: Attr::new(rec[ATTR]),
-    }
-}
-
-// The head in the six bytes that stand where those of a record would that began at index from.
-pub fn head_at(src: &[u8], from: usize) -> Head
-    requires { ⌜ from + 9 ≤ length (now src) ⌝ }
-    ensures { λ h. ⌜ h ≡ headOf (drop from (now (src .entry))) ⌝ }
-{
-    Head {
-        width: wide(src[from + WIDTH]),
-        cursor: Cursor {
-            row: wide(src[from + CURSOR_ROW]),
-            col: wide(src[from + CURSOR_COL]),
-        },
-        insert: src[from + INSERT],
-        keys: src[from + KEYS_ON],
-        attr: Attr::new(src[from + ATTR]),
+        insert: src[at + 3],
+        keys: src[at + 4],
+        attr: Attr::new(src[at + 5]),
     }
 }
 
 // Writes the head h there.
-pub fn put_head(dst: &mut [u8], from: usize, h: Head)
-    requires { ⌜ (from + 9 ≤ length (now dst)) × HeadFits h ⌝ }
-    ensures { λ _. ⌜ now (dst .exit) ≡ write (now (dst .entry)) (from + WIDTH) (headBytes h) ⌝ }
+pub fn put_head(dst: &mut [u8], at: usize, h: Head)
+    requires { ⌜ (at + 6 ≤ length (now dst)) × HeadFits h ⌝ }
+    ensures { λ _. ⌜ now (dst .exit) ≡ write (now (dst .entry)) at (headBytes h) ⌝ }
 {
     let attr = h.attr;
     let byte = attr.byte();
-    dst[from + WIDTH] = h.width as u8;
-    dst[from + CURSOR_ROW] = h.cursor.row as u8;
-    dst[from + CURSOR_COL] = h.cursor.col as u8;
-    dst[from + INSERT] = h.insert;
-    dst[from + KEYS_ON] = h.keys;
-    dst[from + ATTR] = byte;
+    dst[at] = h.width as u8;
+    dst[at + 1] = h.cursor.row as u8;
+    dst[at + 2] = h.cursor.col as u8;
+    dst[at + 3] = h.insert;
+    dst[at + 4] = h.keys;
+    dst[at + 5] = byte;
+}
+
+pub fn read_head(rec: &[u8]) -> Head
+    requires { ⌜ length (now rec) ≡ SIZE ⌝ }
+    ensures { λ h. ⌜ h ≡ headOf (now (rec .entry)) ⌝ }
+{
+    head_at(rec, HEAD)
 }
 
 pub fn read_serial(rec: &[u8]) -> u32
     requires { ⌜ length (now rec) ≡ SIZE ⌝ }
     ensures { λ n. ⌜ n ≡ serialOf (now (rec .entry)) ⌝ }
 {
-    part::four_at(rec, SERIAL)
+    number::four_at(rec, SERIAL)
 }
 
 pub fn read_touched(rec: &[u8]) -> u32
     requires { ⌜ length (now rec) ≡ SIZE ⌝ }
     ensures { λ n. ⌜ n ≡ touchedOf (now (rec .entry)) ⌝ }
 {
-    part::four_at(rec, TOUCHED)
+    number::four_at(rec, TOUCHED)
+}
+
+pub fn read_stamp(rec: &[u8]) -> Stamp
+    requires { ⌜ length (now rec) ≡ SIZE ⌝ }
+    ensures { λ s. ⌜ s ≡ stampOf (now (rec .entry)) ⌝ }
+{
+    Stamp {
+        serial: read_serial(rec),
+        touched: read_touched(rec),
+    }
 }
 
 // Writes what stands before the rows.
-pub fn write_front(rec: &mut [u8], h: Head, serial: u32, touched: u32)
+pub fn write_front(rec: &mut [u8], h: Head, stamp: Stamp)
     requires { ⌜ (length (now rec) ≡ SIZE) × HeadFits h ⌝ }
-    ensures { λ _. ⌜ now (rec .exit) ≡ frontBytes h serial touched ++ drop FLAGS (now (rec .entry)) ⌝ }
+    ensures { λ _. ⌜ now (rec .exit) ≡ frontBytes h stamp ++ drop FLAGS (now (rec .entry)) ⌝ }
 {
-    let attr = h.attr;
-    let byte = attr.byte();
-    part::put4(rec, SERIAL, serial);
-    part::put4(rec, TOUCHED, touched);
+    number::put4(rec, SERIAL, stamp.serial);
+    number::put4(rec, TOUCHED, stamp.touched);
+    put_head(rec, HEAD, h);
     rec[0] = (SIZE / 256) as u8;
     rec[1] = (SIZE % 256) as u8;
     rec[2] = VERSION;
-    rec[WIDTH] = h.width as u8;
-    rec[CURSOR_ROW] = h.cursor.row as u8;
-    rec[CURSOR_COL] = h.cursor.col as u8;
-    rec[INSERT] = h.insert;
-    rec[KEYS_ON] = h.keys;
-    rec[ATTR] = byte;
 }

@@ -8,17 +8,8 @@ pub const SIZE: usize = 4042;
 
 pub const VERSION: u8 = 1;
 
-pub const WIDTH: usize = 3;
-
-pub const CURSOR_ROW: usize = 4;
-
-pub const CURSOR_COL: usize = 5;
-
-pub const INSERT: usize = 6;
-
-pub const KEYS_ON: usize = 7;
-
-pub const ATTR: usize = 8;
+// Width, cursor row, cursor column, insert, keys on, attribute.
+pub const HEAD: usize = 3;
 
 pub const SERIAL: usize = 9;
 

@@ -1,18 +1,20 @@
 // The rows of a record: read, copied from another record, blanked, and written from a text.
-use crate::attr::Attr;
 use crate::layout::ATTRS;
 use crate::layout::CHARS;
 use crate::layout::FLAGS;
 use crate::layout::SIZE;
 use crate::layout::STRIDE;
-use crate::part;
+use crate::pad;
+use bytes::part;
+use values::attr::Attr;
 ghost use mathlib.Core.Path.{_≡_};
 ghost use Prim.Native.Nat.{_+_, _≤_, _<_};
 ghost use mathlib.Core.List.{_++_};
 ghost use lib.ListN.{length, getD, take, drop, set, replicate};
 ghost use Rattle.grid.specs.Layout.{SIZE};
 ghost use Rattle.grid.specs.Screen.{blankRow, lineRow, putCell, flagRow, scrolled, trim};
-ghost use Rattle.grid.specs.Record.{window, write, rowOf, rowFrom, rowsOf, Becomes};
+ghost use Rattle.bytes.specs.Part.{window, write};
+ghost use Rattle.grid.specs.Record.{rowOf, rowFrom, rowsOf, Becomes};
 
 pub fn flag_at(rec: &[u8], r: usize) -> u8
     requires { ⌜ (length (now rec) ≡ SIZE) × (r < 25) ⌝ }
@@ -92,8 +94,8 @@ pub fn blank_row(rec: &mut [u8], r: usize, w: usize, attr: Attr)
     ensures { λ _. ⌜ Becomes (now (rec .entry)) (now (rec .exit)) (set (rowsOf (now (rec .entry))) r (blankRow w attr)) ⌝ }
 {
     let blank = attr.byte();
-    part::pad(rec, CHARS + STRIDE * r, w, b' ');
-    part::pad(rec, ATTRS + STRIDE * r, w, blank);
+    pad::pad(rec, CHARS + STRIDE * r, w, b' ');
+    pad::pad(rec, ATTRS + STRIDE * r, w, blank);
     rec[FLAGS + r] = 0;
 }
 
@@ -112,8 +114,8 @@ pub fn line_row(
     ensures { λ _. ⌜ Becomes (now (rec .entry)) (now (rec .exit)) (set (rowsOf (now (rec .entry))) r (lineRow w attr flag (window (now (text .entry)) from n))) ⌝ }
 {
     let byte = attr.byte();
-    part::put_text(rec, CHARS + STRIDE * r, w, text, from, n);
-    part::pad(rec, ATTRS + STRIDE * r, w, byte);
+    pad::put_text(rec, CHARS + STRIDE * r, w, text, from, n);
+    pad::pad(rec, ATTRS + STRIDE * r, w, byte);
     rec[FLAGS + r] = flag;
 }
 
@@ -159,7 +161,7 @@ pub fn scroll_up(rec: &mut [u8], e: usize, w: usize, attr: Attr)
 }
 
 // A copy of a whole record.
-pub fn snapshot(rec: &[u8]) -> [u8; SIZE]
+pub fn copy_of(rec: &[u8]) -> [u8; SIZE]
     requires { ⌜ length (now rec) ≡ SIZE ⌝ }
     ensures { λ a. ⌜ a ≡ now (rec .entry) ⌝ }
 {

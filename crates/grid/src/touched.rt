@@ -5,16 +5,17 @@ use crate::layout::ATTRS;
 use crate::layout::CHARS;
 use crate::layout::SCREEN_ROWS;
 use crate::layout::STRIDE;
-use crate::mask;
 use crate::row;
+use values::mask;
 ghost use mathlib.Core.Path.{_≡_};
 ghost use Prim.Native.Nat.{_+_, _≤_, _<_, _^_};
 ghost use lib.Dec.{eqb};
 ghost use lib.ListN.{length};
-ghost use Rattle.grid.specs.Choice.{if_then_else_};
+ghost use Rattle.bytes.specs.Choice.{if_then_else_};
 ghost use Rattle.grid.specs.Layout.{SIZE};
 ghost use Rattle.grid.specs.Screen.{same, sameRow, touchedRows};
-ghost use Rattle.grid.specs.Record.{window, rowOf, rowsOf};
+ghost use Rattle.bytes.specs.Part.{window};
+ghost use Rattle.grid.specs.Record.{rowOf, rowsOf};
 
 fn unlike(a: u8, b: u8) -> u8
     ensures { λ k. ⌜ (k ≡ (if eqb a b then 0 else 1)) × (k ≤ 1) ⌝ }

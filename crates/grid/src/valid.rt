@@ -2,7 +2,6 @@
 //
 // A loop over bytes has no early way out: it counts what is wrong, in a u8 and over at most 80 bytes, so that it is compiled to
 // vector instructions.
-use crate::attr::Attr;
 use crate::head;
 use crate::layout::ATTRS;
 use crate::layout::CHARS;
@@ -12,14 +11,19 @@ use crate::layout::SIZE;
 use crate::layout::STRIDE;
 use crate::layout::VERSION;
 use crate::row;
+use bytes::width;
+use bytes::zero;
+use values::attr::Attr;
 ghost use mathlib.Core.Path.{_≡_};
 ghost use Prim.Native.Nat.{_+_, _≤_, _<_};
 ghost use mathlib.Core.Logic.{_⊎_};
 ghost use lib.ListN.{length};
-ghost use Rattle.grid.specs.Choice.{if_then_else_};
+ghost use Rattle.bytes.specs.Choice.{if_then_else_};
 ghost use Rattle.grid.specs.Layout.{SIZE};
-ghost use Rattle.grid.specs.Screen.{printable, zerob, every, widthb, validAttr, validHead, validRow};
-ghost use Rattle.grid.specs.Record.{window, rowOf, frontb, validb};
+ghost use Rattle.grid.specs.Screen.{printable, validAttr, validHead, validRow};
+ghost use Rattle.bytes.specs.Test.{every};
+ghost use Rattle.bytes.specs.Part.{window};
+ghost use Rattle.grid.specs.Record.{rowOf, frontb, validb};
 ghost use Rattle.grid.specs.Counted.{Wrong};
 
 // May a cell hold the character c?
@@ -38,12 +42,6 @@ fn unprintable(c: u8) -> u8
     if c < 32 { 1 } else { 0 }
 }
 
-fn nonzero(c: u8) -> u8
-    ensures { λ k. ⌜ (k ≡ (if zerob c then 0 else 1)) × (k ≤ 1) ⌝ }
-{
-    if c == 0 { 0 } else { 1 }
-}
-
 // Are the n bytes from index at on characters that a cell may hold?
 pub fn all_printable(rec: &[u8], at: usize, n: usize) -> bool
     requires { ⌜ (at + n ≤ length (now rec)) × (n ≤ 80) ⌝ }
@@ -53,20 +51,6 @@ pub fn all_printable(rec: &[u8], at: usize, n: usize) -> bool
     let mut i = 0;
     while i < n {
         bad = bad + unprintable(rec[at + i]);
-        i += 1;
-    }
-    bad == 0
-}
-
-// Are the n bytes from index at on zero?
-pub fn all_zero(rec: &[u8], at: usize, n: usize) -> bool
-    requires { ⌜ (at + n ≤ length (now rec)) × (n ≤ 80) ⌝ }
-    ensures { λ t. ⌜ t ≡ every zerob (window (now (rec .entry)) at n) ⌝ }
-{
-    let mut bad: u8 = 0;
-    let mut i = 0;
-    while i < n {
-        bad = bad + nonzero(rec[at + i]);
         i += 1;
     }
     bad == 0
@@ -93,8 +77,8 @@ fn narrow_wrong(rec: &[u8], chars: usize, attrs: usize, n: usize) -> u8
     while i < n {
         bad = bad
             + unprintable(rec[chars + i])
-            + nonzero(rec[chars + 40 + i])
-            + nonzero(rec[attrs + 40 + i]);
+            + zero::nonzero(rec[chars + 40 + i])
+            + zero::nonzero(rec[attrs + 40 + i]);
         i += 1;
     }
     bad
@@ -123,12 +107,6 @@ fn row_ok(rec: &[u8], r: usize, w: usize) -> bool
     narrow_row_ok(rec, r)
 }
 
-pub fn width_ok(w: usize) -> bool
-    ensures { λ t. ⌜ t ≡ widthb w ⌝ }
-{
-    w == 40 || w == 80
-}
-
 fn attr_ok(a: Attr) -> bool
     ensures { λ t. ⌜ t ≡ validAttr a ⌝ }
 {
@@ -138,7 +116,7 @@ fn attr_ok(a: Attr) -> bool
 pub fn head_ok(h: head::Head) -> bool
     ensures { λ t. ⌜ t ≡ validHead h ⌝ }
 {
-    if !width_ok(h.width) {
+    if !width::width_ok(h.width) {
         return false;
     }
     if h.cursor.row >= head::editable_rows(h.keys) {

@@ -1,5 +1,5 @@
--- The laws of the key table, the strip and the strip call, which the proofs of `keys` cite.
-pub mod Tables
-pub mod Slots
-pub mod Answers
-pub mod Refused
+-- The laws of the key table and its strip.
+pub mod TableLaws
+pub mod StripLaws
+pub mod CallLaws
+pub mod Refusals

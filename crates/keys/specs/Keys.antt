@@ -1,14 +1,16 @@
 -- Document 01, "Texts and key strip": the key table, the strip (`FunctionKeys::strip`), and what the strip call answers and leaves.
 -- Assumes nothing.
 use Prim.Native.Nat.{ℕ, zero, suc, _+_, _-_, _*_, _/_, _%_}
-use mathlib.Core.Bool.{Bool, true, not, _&&_, _||_}
+use mathlib.Core.Bool.{Bool, true, _&&_, _||_}
 use mathlib.Core.List.{List, [], _∷_, _++_, map}
 use lib.Dec.{leb, ltb, eqb}
 use lib.ListN.{length, getD, take, drop, replicate}
-use Rattle.grid.specs.Choice.{if_then_else_}
-use Rattle.grid.specs.Answer.{Written, unless, wrote}
-use Rattle.grid.specs.Screen.{every, zerob, widthb}
-use Rattle.grid.specs.Record.{window}
+use Rattle.bytes.specs.Choice.{if_then_else_}
+use Rattle.bytes.specs.Refusals.{firstOf}
+use Rattle.bytes.specs.Answer.{Written, unless, wrote}
+use Rattle.bytes.specs.Test.{every, zerob}
+use Rattle.bytes.specs.Width.{widthb}
+use Rattle.bytes.specs.Part.{window}
 
 -- ---- the key table t: ten times a length and fifteen bytes
 
@@ -78,14 +80,10 @@ strip macros lengths offset width = slotsFrom macros lengths offset (width / 8)
 unfoldable pub fits : ℕ → ℕ → Bool
 fits width len = if widthb width then eqb len width else true
 
--- the first refusal, 0 if none
-unfoldable pub stripRefusal : List ℕ → ℕ → ℕ → List ℕ → ℕ
-stripRefusal t offset width out =
-    if not (eqb (length t) TABLE_SIZE && fits width (length out)) then 1
-    else if not (tableb t) then 2
-    else if not (widthb width && leb offset 9) then 3
-    else 0
+unfoldable pub stripTests : List ℕ → ℕ → ℕ → List ℕ → List (ℕ × Bool)
+stripTests t offset width out =
+    (1, eqb (length t) TABLE_SIZE && fits width (length out)) ∷ (2, tableb t) ∷ (3, widthb width && leb offset 9) ∷ []
 
 unfoldable pub stripping : List ℕ → ℕ → ℕ → List ℕ → Written
 stripping t offset width out =
-    unless (stripRefusal t offset width out) out (wrote (strip (macrosOf t) (lengthsOf t) offset width) out)
+    unless (firstOf (stripTests t offset width out)) out (wrote (strip (macrosOf t) (lengthsOf t) offset width) out)

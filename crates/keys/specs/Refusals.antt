@@ -1,39 +1,37 @@
--- Nothing is refused but what document 01 refuses: its conditions for the strip call, written out, and what is to be shown of them.
--- `proofs/Refused.antt` has the proof. t is the lent table and out the lent output.
+-- Document 01, "What a call answers": when exactly the strip call is refused. The conditions are written out here, apart from the tests by which
+-- `specs/Keys.antt` finds a refusal. `proofs/Refusals.antt` has that the call answers by them. t is the lent table and out the lent output.
 -- Assumes nothing.
 use Prim.Native.Nat.{ℕ, _+_, _*_, _≤_, _<_}
 use mathlib.Core.Path.{_≡_}
 use mathlib.Core.List.{List}
-use mathlib.Core.Logic.{_⊎_, _↔_}
+use mathlib.Core.Logic.{_⊎_, _≢_}
 use lib.ListN.{length, getD}
-use Rattle.grid.specs.Answer.{refused}
-use Rattle.keys.specs.Keys.{stripping}
+use Rattle.bytes.specs.Answer.{refused, wrote}
+use Rattle.bytes.specs.Refusals.{Refuses}
+use Rattle.keys.specs.Keys.{macrosOf, lengthsOf, strip, stripping}
 
 abbrev pub isWidth : ℕ → Type 0
 isWidth w = (w ≡ 40) ⊎ (w ≡ 80)
 
--- 1. A lent slice has the wrong length: key table 160, strip output exactly the width asked. Of a bad width it is not tested.
-abbrev pub WrongLength : List ℕ → ℕ → List ℕ → Type 0
-WrongLength t width out = (length t ≡ 160 → ⊥) ⊎ (isWidth width × (length out ≡ width → ⊥))
-
--- 2. The key table breaks its layout: one of ten keys has a length above 15, or a byte that is not in use and not 0.
+-- a key of the table has a length above 15, or a byte that is not in use and not 0
 abbrev pub BadKey : List ℕ → ℕ → Type 0
 BadKey t k =
     let n = getD t (16 * k) 0 in
-    (15 < n) ⊎ ((i : ℕ) × (n ≤ i) × (i < 15) × (getD t (16 * k + 1 + i) 0 ≡ 0 → ⊥))
+    (15 < n) ⊎ ((i : ℕ) × (n ≤ i) × (i < 15) × (getD t (16 * k + 1 + i) 0 ≢ 0))
 
-abbrev pub BrokenTable : List ℕ → Type 0
-BrokenTable t = (k : ℕ) × (k < 10) × BadKey t k
+pub data StripRefused (t : List ℕ) (offset width : ℕ) (out : List ℕ) : ℕ → Type 0 where
+  table-length : length t ≢ 160 → StripRefused t offset width out 1
+  -- the output is exactly the width asked; of a bad width its length is not tested
+  output-length : isWidth width → length out ≢ width → StripRefused t offset width out 1
+  -- one of ten keys is bad
+  layout : (k : ℕ) → k < 10 → BadKey t k → StripRefused t offset width out 2
+  -- strip takes 40 or 80, and an offset 0 to 9
+  width-argument : ¬ isWidth width → StripRefused t offset width out 3
+  offset-argument : 9 < offset → StripRefused t offset width out 3
 
--- 3. An argument is out of range: strip takes 40 or 80, and an offset 0 to 9.
-abbrev pub OutOfRange : ℕ → ℕ → Type 0
-OutOfRange offset width = (isWidth width → ⊥) ⊎ (9 < offset)
-
--- refusal k exactly when condition k holds and none before it; a refusal changes no byte; otherwise the answer is the width, which is no refusal's number
-pub record Exactly (t : List ℕ) (offset width : ℕ) (out : List ℕ) : Type 0 where
-  pub first : (stripping t offset width out .number ≡ refused 1) ↔ WrongLength t width out
-  pub second : (stripping t offset width out .number ≡ refused 2) ↔ ((WrongLength t width out → ⊥) × BrokenTable t)
-  pub third : (stripping t offset width out .number ≡ refused 3) ↔ ((WrongLength t width out → ⊥) × (BrokenTable t → ⊥) × OutOfRange offset width)
-  pub unchanged : refused 1 ≤ stripping t offset width out .number → stripping t offset width out .bytes ≡ out
-  pub accepted : (WrongLength t width out → ⊥) → (BrokenTable t → ⊥) → (OutOfRange offset width → ⊥)
-      → (stripping t offset width out .number ≡ width) × (width < refused 1)
+pub record StrippingAnswers (t : List ℕ) (offset width : ℕ) (out : List ℕ) : Type 0 where
+  pub number : Refuses (StripRefused t offset width out) (stripping t offset width out .number)
+  pub kept : refused 1 ≤ stripping t offset width out .number → stripping t offset width out .bytes ≡ out
+  pub done : stripping t offset width out .number < refused 1 → stripping t offset width out ≡ wrote (strip (macrosOf t) (lengthsOf t) offset width) out
+  -- its length is the width asked
+  pub answers : stripping t offset width out .number < refused 1 → stripping t offset width out .number ≡ width

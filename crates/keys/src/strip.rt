@@ -2,11 +2,11 @@
 use crate::table::KEYS;
 use crate::table::Lengths;
 use crate::table::Macros;
-use grid::part;
+use bytes::part;
 ghost use mathlib.Core.Path.{_≡_};
 ghost use Prim.Native.Nat.{_+_, _≤_, _<_, min};
 ghost use lib.ListN.{length};
-ghost use Rattle.grid.specs.Record.{write};
+ghost use Rattle.bytes.specs.Part.{write};
 ghost use Rattle.keys.specs.Keys.{display, displayed, digit, slot, strip};
 ghost use Rattle.keys.specs.Facts.{Full};
 

@@ -1,6 +1,6 @@
 // The key table: ten times a length and fifteen bytes, of which as many are in use. Its layout is tested, and the macros are read out of it.
-use grid::part;
-use grid::valid;
+use bytes::part;
+use bytes::zero;
 ghost use mathlib.Core.Path.{_≡_};
 ghost use Prim.Native.Nat.{_<_};
 ghost use lib.ListN.{length};
@@ -77,7 +77,7 @@ fn key_ok(tab: &[u8], k: usize) -> bool
     if n > MACRO_LEN {
         return false;
     }
-    valid::all_zero(tab, KEY_SIZE * k + 1 + n, MACRO_LEN - n)
+    zero::all_zero(tab, KEY_SIZE * k + 1 + n, MACRO_LEN - n)
 }
 
 // Is the slice a key table as the layout asks?

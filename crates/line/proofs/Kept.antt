@@ -4,7 +4,7 @@ use Prim.Native.Nat.{_<_}
 use mathlib.Core.List.{List}
 use Rattle.grid.specs.Screen.{Row, Screen, withRows, moveTo, editable}
 use Rattle.grid.specs.Facts.{ScreenFacts}
-use Rattle.grid.specs.declared.cursor.Cursor.{Cursor}
+use Rattle.values.specs.declared.cursor.Cursor.{Cursor}
 use Rattle.grid.proofs.Validity.{head-is}
 use Rattle.grid.proofs.Keep.{Edited}
 

@@ -10,11 +10,12 @@ use native.Mathlib.Omega.{arith}
 use lib.ListN.{length, take, drop, replicate, length-append, length-take, length-replicate}
 use lib.Dec.{eqb, ltb}
 use borrow.Author.Tests.{eqb-true, eqb-false, ltb-false}
-use Rattle.grid.specs.Choice.{if_then_else_}
-use Rattle.grid.specs.Screen.{Row, Screen, withRows, editable, isSpace, trim, every, printable, validRow, blankRow}
+use Rattle.bytes.specs.Choice.{if_then_else_}
+use Rattle.grid.specs.Screen.{Row, Screen, withRows, editable, isSpace, trim, printable, validRow, blankRow}
+use Rattle.bytes.specs.Test.{every}
 use Rattle.grid.specs.Facts.{RowsFacts, ScreenFacts}
-use Rattle.grid.specs.declared.attr.Attr.{Attr}
-use Rattle.grid.proofs.Bools.{and-left, and-right, cases, either, every-both, every-take, every-drop}
+use Rattle.values.specs.declared.attr.Attr.{Attr}
+use Rattle.bytes.proofs.Bools.{and-left, and-right, cases, either, every-both, every-take, every-drop}
 use Rattle.grid.proofs.Trim.{trim-le}
 use Rattle.grid.proofs.Validity.{row-facts, row-valid}
 use Rattle.grid.proofs.Keep.{rows-take, rows-drop, rows-append, rows-cons, rows-count, rows-replicate, row-at, spaces, line-row, Edited, edited-top, blank-of}

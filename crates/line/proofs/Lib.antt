@@ -1,11 +1,12 @@
--- The laws of `line`'s definitions, which its proofs and those of the crates above cite.
-pub mod Spans
-pub mod Joined
-pub mod Contents
-pub mod Readings
-pub mod Texts
-pub mod Counts
-pub mod Plans
-pub mod Spliced
+-- The laws of logical lines.
+pub mod HeadLaws
+pub mod CharsLaws
+pub mod SpanLaws
+pub mod ReadingLaws
+pub mod TextLaws
+pub mod ContentLaws
+pub mod SpliceCounts
+pub mod PlanLaws
+pub mod SpliceLaws
 pub mod Kept
 pub mod KeptLine

@@ -5,7 +5,7 @@ use mathlib.Core.Bool.{Bool}
 use mathlib.Core.List.{List, [], _∷_, _++_}
 use lib.ListN.{length, take, drop, replicate}
 use lib.Dec.{eqb}
-use Rattle.grid.specs.Choice.{if_then_else_}
+use Rattle.bytes.specs.Choice.{if_then_else_}
 use Rattle.grid.specs.Screen.{Row, Screen, rowAt, editable, trim}
 
 -- the most characters of a logical line

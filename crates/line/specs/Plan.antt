@@ -2,13 +2,13 @@
 -- Assumes nothing.
 use Prim.Native.Nat.{ℕ, _+_, _-_, _≤_, _<_}
 use mathlib.Core.Path.{_≡_}
-use mathlib.Core.List.{List, [], _++_}
+use mathlib.Core.List.{List, _++_}
 use lib.ListN.{drop}
 use lib.Dec.{ltb, eqb}
-use Rattle.grid.specs.Choice.{if_then_else_}
-use Rattle.grid.specs.Screen.{Row, Screen, at, withRows, moveTo, editable, rowAt, blankRow}
-use Rattle.grid.specs.Record.{tabulate}
-use Rattle.line.specs.Splice.{rowsFor, splicedRows}
+use Rattle.bytes.specs.Choice.{if_then_else_}
+use Rattle.grid.specs.Screen.{Row, rowAt}
+use Rattle.bytes.specs.Table.{tabulate}
+use Rattle.line.specs.Splice.{rowsFor}
 use Rattle.line.specs.declared.plan.Plan.{Plan}
 
 -- k rows are what n characters with the cursor at i take
@@ -16,11 +16,6 @@ pub record Count (w n i k : ℕ) : Type 0 where
   pub is : k ≡ rowsFor w n i
   pub low : 1 ≤ k
   pub high : k ≤ 8
-
--- the screen without its rows b to d, the cursor in the first column of row b
-unfoldable pub withoutRows : Screen → ℕ → ℕ → Screen
-withoutRows s b d =
-    moveTo (withRows s (splicedRows (s .rows) (editable (s .head .keys)) b d [] (blankRow (s .head .width) (s .head .attr)))) (at b 0)
 
 -- ---- the plan
 

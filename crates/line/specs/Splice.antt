@@ -5,9 +5,10 @@ use mathlib.Core.Bool.{_&&_}
 use mathlib.Core.List.{List, [], _∷_, _++_}
 use lib.ListN.{length, take, drop, replicate}
 use lib.Dec.{ltb, eqb}
-use Rattle.grid.specs.Choice.{if_then_else_}
-use Rattle.grid.specs.Screen.{Row, Screen, at, withRows, moveTo, editable, blankRow, lineRow}
-use Rattle.grid.specs.declared.attr.Attr.{Attr}
+use Rattle.bytes.specs.Choice.{if_then_else_}
+use Rattle.grid.specs.Screen.{Row, Screen, withRows, moveTo, editable, blankRow, lineRow}
+use Rattle.values.specs.Cursor.{at}
+use Rattle.values.specs.declared.attr.Attr.{Attr}
 use Rattle.line.specs.Line.{startOf, endOf}
 
 -- the rows of n characters with the cursor at i: ceil(n / w), at least 1, plus 1 if n > 0, the cursor is at n and w divides n
@@ -39,3 +40,8 @@ splice s cs i =
     let d = endOf s (s .head .cursor .row) in
     let n = rowsFor w (length cs) i in
     moveTo (withRows s (splicedRows (s .rows) e b d (lineRows n w a cs) (blankRow w a))) (at (b - (b + n - e) + i / w) (i % w))
+
+-- the screen without its rows b to d, the cursor in the first column of row b
+unfoldable pub withoutRows : Screen → ℕ → ℕ → Screen
+withoutRows s b d =
+    moveTo (withRows s (splicedRows (s .rows) (editable (s .head .keys)) b d [] (blankRow (s .head .width) (s .head .attr)))) (at b 0)

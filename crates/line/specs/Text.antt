@@ -5,7 +5,7 @@ use mathlib.Core.Path.{_≡_}
 use mathlib.Core.List.{List}
 use lib.ListN.{length, take, drop}
 use lib.Dec.{eqb}
-use Rattle.grid.specs.Choice.{if_then_else_}
+use Rattle.bytes.specs.Choice.{if_then_else_}
 use Rattle.grid.specs.Record.{rowsOf}
 use Rattle.line.specs.Line.{MAX-LOGICAL, joined}
 use Rattle.line.specs.declared.text.Text.{Text}

@@ -5,7 +5,7 @@ ghost use mathlib.Core.Path.{_≡_};
 ghost use Prim.Native.Nat.{_-_, _*_, _≤_, _<_};
 ghost use lib.ListN.{length, replicate};
 ghost use Rattle.grid.specs.Layout.{SIZE};
-ghost use Rattle.grid.specs.Record.{write};
+ghost use Rattle.bytes.specs.Part.{write};
 ghost use Rattle.line.specs.Line.{MAX-LOGICAL};
 ghost use Rattle.line.specs.Text.{lineFrom};
 

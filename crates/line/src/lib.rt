@@ -7,6 +7,7 @@
 // `rec`, and hands the new head back.
 mod chars;
 pub mod content;
+pub mod head;
 mod num;
 mod plan;
 pub mod reading;

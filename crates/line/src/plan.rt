@@ -3,8 +3,8 @@
 use crate::num::minus;
 use crate::num::smaller;
 use crate::span::Span;
-use grid::attr::Attr;
 use grid::row;
+use values::attr::Attr;
 ghost use mathlib.Core.Path.{_≡_};
 ghost use Prim.Native.Nat.{_≤_, _<_};
 ghost use lib.ListN.{length, take, set};

@@ -1,15 +1,17 @@
-// Reading: the text of a line.
+// Reading: the text of a line, and how it is handed out.
 use crate::chars::joined_rows;
 use crate::num::smaller;
 use crate::text::MAX_LOGICAL;
+use bytes::part;
 use grid::head::Head;
 use grid::row;
 ghost use mathlib.Core.Path.{_≡_};
 ghost use Prim.Native.Nat.{_≤_, _<_};
 ghost use lib.ListN.{length, take};
+ghost use Rattle.bytes.specs.Answer.{wrote, Writes};
 ghost use Rattle.grid.specs.Screen.{trim};
 ghost use Rattle.grid.specs.Record.{screenOf};
-ghost use Rattle.line.specs.Line.{reading};
+ghost use Rattle.line.specs.Line.{MAX-LOGICAL, reading};
 ghost use Rattle.line.specs.Given.{Known};
 ghost use Rattle.line.specs.Text.{Reads};
 
@@ -47,4 +49,15 @@ pub fn read_stripped(rec: &[u8], h: Head, start: usize, end: usize) -> Reading
         bytes: bytes,
         len: n,
     }
+}
+
+// Writes a reading to the front of an output, and answers its length.
+pub fn put_reading(out: &mut [u8], t: Reading) -> u32
+    requires { ⌜ (length (t .bytes) ≡ MAX-LOGICAL) × (t .len ≤ MAX-LOGICAL) × (MAX-LOGICAL ≤ length (now out)) ⌝ }
+    ensures { λ n. ⌜ Writes (wrote (take (t .len) (t .bytes)) (now (out .entry))) n (now (out .exit)) ⌝ }
+{
+    let bytes = t.bytes;
+    let n = t.len;
+    part::copy_in(out, 0, &bytes, 0, n);
+    n as u32
 }

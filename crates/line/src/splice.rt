@@ -1,18 +1,22 @@
 // Splice: the span under the cursor becomes another text, or goes.
 use crate::plan;
+use crate::plan::Plan;
 use crate::span::Span;
 use crate::text::Text;
-use grid::cursor::Cursor;
 use grid::head;
 use grid::head::Head;
-ghost use Prim.Native.Nat.{_≤_, _<_};
-ghost use Rattle.grid.specs.Screen.{editable};
+use values::cursor::Cursor;
+ghost use mathlib.Core.Path.{_≡_};
+ghost use Prim.Native.Nat.{_+_, _/_, _%_, _≤_, _<_};
+ghost use Rattle.values.specs.Cursor.{at};
+ghost use Rattle.grid.specs.Screen.{editable, withCursor};
+ghost use Rattle.grid.specs.Facts.{HeadFacts};
 ghost use Rattle.grid.specs.Record.{screenOf, Leaves};
 ghost use Rattle.line.specs.Line.{MAX-LOGICAL};
-ghost use Rattle.line.specs.Splice.{splice};
+ghost use Rattle.line.specs.Splice.{splice, withoutRows};
 ghost use Rattle.line.specs.Given.{Begun, SpanIs};
 ghost use Rattle.line.specs.Text.{Sound, textOf};
-ghost use Rattle.line.specs.Plan.{Count, withoutRows};
+ghost use Rattle.line.specs.Plan.{Count, Laid};
 
 // The rows that n characters take with the cursor at i.
 fn rows_for(w: usize, n: usize, i: usize) -> usize
@@ -32,6 +36,15 @@ fn rows_for(w: usize, n: usize, i: usize) -> usize
     k + 1
 }
 
+// The head h with the cursor at index i of a line that the plan has laid.
+fn head_in(h: Head, p: Plan, i: usize) -> Head
+    requires { ⌜ HeadFacts h × Laid p × (i ≤ MAX-LOGICAL) ⌝ }
+    ensures { λ g. ⌜ g ≡ withCursor h (at (p .top + i / h .width) (i % h .width)) ⌝ }
+{
+    let w = h.width;
+    h.with_cursor(Cursor::new(p.top + i / w, i % w))
+}
+
 // Span is that of the cursor's row. The new head is handed back. (A sound text has at most 255 characters, and its index is among them or behind
 // the last: the Rust cuts both here.)
 pub fn splice_logical(rec: &mut [u8], old: &[u8], h: Head, span: Span, text: Text) -> Head
@@ -46,13 +59,7 @@ pub fn splice_logical(rec: &mut [u8], old: &[u8], h: Head, span: Span, text: Tex
     let p = plan::plan_of(span, occupied, head::editable_rows(h.keys));
     let bytes = text.bytes;
     plan::write_rows(rec, old, p, &bytes, len, w, attr);
-    Head {
-        width: w,
-        cursor: Cursor::new(p.top + i / w, i % w),
-        insert: h.insert,
-        keys: h.keys,
-        attr: attr,
-    }
+    head_in(h, p, i)
 }
 
 // The span's rows go, later ones move up, blank rows fill below; the cursor goes to the first column of the span's first row.
@@ -64,11 +71,5 @@ pub fn remove_line(rec: &mut [u8], old: &[u8], h: Head, span: Span) -> Head
     // A line of no rows: none of the text, for which old stands in, is read.
     let p = plan::plan_of(span, 0, head::editable_rows(h.keys));
     plan::write_rows(rec, old, p, old, 0, h.width, attr);
-    Head {
-        width: h.width,
-        cursor: Cursor::new(span.start, 0),
-        insert: h.insert,
-        keys: h.keys,
-        attr: attr,
-    }
+    h.with_cursor(Cursor::new(span.start, 0))
 }

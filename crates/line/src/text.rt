@@ -23,7 +23,7 @@ impl Text {
         let mut bytes = self.bytes;
         let i = self.index;
         let n = self.len;
-        grid::part::copy_down(&mut bytes, i, i + 1, n - i);
+        bytes::part::copy_down(&mut bytes, i, i + 1, n - i);
         bytes[i] = ch;
         Text {
             bytes: bytes,
@@ -69,7 +69,7 @@ impl Text {
     {
         let mut bytes = self.bytes;
         let n = self.len;
-        grid::part::copy_up(&mut bytes, at + 1, at, n - 1 - at);
+        bytes::part::copy_up(&mut bytes, at + 1, at, n - 1 - at);
         Text {
             bytes: bytes,
             len: n - 1,

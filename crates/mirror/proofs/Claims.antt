@@ -3,42 +3,53 @@
 -- Assumes nothing.
 use Prim.Native.Nat.{ℕ, _≤_, _<_}
 use mathlib.Core.Path.{_≡_, refl, sym, ap, _∙_, subst}
-use mathlib.Core.Bool.{true, not}
+use mathlib.Core.Bool.{true}
 use mathlib.Core.List.{List, [], _∷_, _++_, foldl-append, append-nil}
 use native.Mathlib.Omega.{arith}
-use lib.Dec.{eqb}
+use lib.Dec.{leb, eqb}
 use lib.ListN.{length, take, drop}
 use lib.Seq.{take-append-seam, append-snoc}
 use borrow.Author.Tests.{eq-eqb, le-leb}
-use Rattle.grid.specs.Choice.{if_then_else_}
-use Rattle.grid.specs.Answer.{Written, wrote}
+use Rattle.bytes.specs.Choice.{if_then_else_}
+use Rattle.bytes.specs.Answer.{Written, wrote, isRefusal}
 use Rattle.grid.specs.Layout.{SIZE, SERIALS}
 use Rattle.grid.specs.Screen.{State, newState}
 use Rattle.grid.specs.Record.{stateBytes}
 use Rattle.grid.specs.Facts.{StateFacts}
-use Rattle.grid.proofs.Bools.{and-both, pick, skip}
+use Rattle.editor.specs.Lists.{screenLeft}
+use Rattle.bytes.specs.Refusals.{firstOf, allPass}
+use Rattle.grid.specs.Refusals.{recordTests}
+use Rattle.bytes.proofs.Bools.{and-both, pick}
 use Rattle.grid.proofs.Bytes.{state-back, length-state, state-valid}
-use Rattle.editor.specs.Outcome.{refusal}
-use Rattle.mirror.specs.Layout.{LONGEST, MIRROR-SIZE, RECORD}
-use Rattle.mirror.specs.Report.{Kind, Report, reportOf, reportBytes, readReport, reported, reporting}
-use Rattle.mirror.specs.Mirror.{level, mirrorBytes, newMirror, creatingMirror, leaving, arrival}
+use Rattle.report.specs.Layout.{LONGEST}
+use Rattle.mirror.specs.Layout.{MIRROR-SIZE, RECORD}
+use Rattle.report.specs.declared.kind.Kind.{Kind}
+use Rattle.report.specs.Report.{Report, frontOf, reportOf, reportBytes, readFront, readReport, reported, reporting}
+use Rattle.mirror.specs.Mirror.{levelOf, mirrorBytes, newMirror, creatingMirror, leaving, arrival}
 use Rattle.mirror.specs.Count.{Heard, heardIn, Count, counted, tally}
-use Rattle.mirror.specs.Demand3.{Run, isRefusal, acceptedBy, recordAfter, screenAfter, Arrival, made, slice, report, arriving, mirrorAfter, May, Line, heard, m, n, newestIn, shownIn, Shows, Takes, Demand3}
-use Rattle.mirror.proofs.RoundTrips.{report-back, MirrorFacts, newest-back, shown-back, record-back}
-use Rattle.mirror.proofs.Calls.{unless-none}
+use Rattle.mirror.specs.Demand3.{Run, acceptedBy, recordAfter, screenAfter, Arrival, made, slice, report, arriving, mirrorAfter, May, Line, heard, m, n, newestIn, shownIn, Shows, Takes, Demand3}
+use Rattle.report.proofs.RoundTrips.{report-back}
+use Rattle.mirror.proofs.RoundTrips.{MirrorFacts, newest-back, shown-back, record-back}
+use Rattle.bytes.proofs.Found.{unless-none, all-pass}
 use Rattle.mirror.proofs.Counts.{counted-le, counted-next, counted-level, tally-largest}
 use Rattle.mirror.proofs.Runs.{stateAt, facts-at, valid-at, calls-few, accepted-le, record-is}
 use Rattle.mirror.proofs.Arrivals.{leaving-accepted, arrival-keeps, was, state-was, mirrorOf, made-facts, arrival-counted}
 
 -- ---- a report that was made
 
+-- no test of a report call fails on the record of a state
+none-refused : (t : State) (out : List ℕ) → StateFacts t → LONGEST ≤ length out → firstOf (recordTests (leb LONGEST (length out)) (stateBytes t)) ≡ 0
+unfolding recordTests allPass
+none-refused t out f h =
+    all-pass _
+    (and-both _ _ (and-both _ _ (eq-eqb (length (stateBytes t)) SIZE (length-state t f)) (le-leb LONGEST (length out) h)) (and-both _ _ (state-valid t f) refl))
+
 -- the report call on the record of a state
 reporting-done : (kind : Kind) (t : State) (out : List ℕ) → StateFacts t → LONGEST ≤ length out
     → reporting kind (stateBytes t) out ≡ wrote (reportBytes (reportOf kind t)) out
-unfolding reporting refusal reported
+unfolding reporting reported
 reporting-done kind t out f h =
-    let size = and-both _ _ (eq-eqb (length (stateBytes t)) SIZE (length-state t f)) (le-leb LONGEST (length out) h) in
-    unless-none _ _ _ (skip _ _ _ (ap not size) ∙ skip _ _ _ (ap not (state-valid t f)) ∙ skip _ _ _ refl)
+    unless-none _ _ _ (none-refused t out f h)
     ∙ ap (λ (x : State). wrote (reportBytes (reportOf kind x)) out) (state-back t f)
 
 taken-out : (text out : List ℕ) → take (wrote text out .number) (wrote text out .bytes) ≡ text
@@ -56,10 +67,10 @@ module _ (run : Run) (kind : Kind) (k : ℕ) (out : List ℕ) (room : LONGEST �
       ap (λ (o : Written). take (o .number) (o .bytes)) done ∙ taken-out _ out
 
   report-says : heardIn (report run kind k out) ≡ record { kind = kind; serial = acceptedBy run k }
-  unfolding heardIn readReport reportOf was
+  unfolding heardIn readReport readFront reportOf frontOf was
   report-says =
       ap heardIn report-is
-      ∙ ap (λ (r : Report). record { kind = r .kind; serial = r .serial }) (report-back _ (made-facts run kind (acceptedBy run k) (accepted-le run k)))
+      ∙ ap (λ (r : Report). record { kind = r .front .kind; serial = r .front .serial }) (report-back _ (made-facts run kind (acceptedBy run k) (accepted-le run k)))
 
 -- ---- one arrival more
 
@@ -115,7 +126,7 @@ module _ (run : Run) where
   Held seen = Holds (mirrorAfter run seen) (tally (heard run seen))
 
   held-start : Held []
-  unfolding heard tally mirrorAfter mirrorOf creatingMirror newMirror newState screenAfter
+  unfolding heard tally mirrorAfter mirrorOf creatingMirror firstOf newMirror newState screenAfter screenLeft
   held-start =
       record {
         behind = omega arith;
@@ -181,7 +192,7 @@ module _ (run : Run) where
       }
 
   answer-is : (t : Count) → leaving (mirrorOf run t) .number ≡ (if eqb (t .m) (t .n) then 1 else 0)
-  unfolding leaving level mirrorOf
+  unfolding leaving levelOf mirrorOf
   answer-is t = refl
 
   takes : (before : List Arrival) (kind : Kind) (k : ℕ) (out : List ℕ) → LONGEST ≤ length out → Held before

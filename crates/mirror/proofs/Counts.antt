@@ -5,9 +5,10 @@ use mathlib.Core.Path.{_≡_, refl}
 use mathlib.Core.List.{List, [], _∷_, foldl}
 use native.Mathlib.Omega.{arith}
 use borrow.Author.Tests.{ltb-false, eqb-false}
-use Rattle.grid.specs.Choice.{if_then_else_}
-use Rattle.grid.proofs.Bools.{cases, either}
-use Rattle.mirror.specs.Report.{Kind, Step, Full}
+use Rattle.bytes.specs.Choice.{if_then_else_}
+use Rattle.bytes.proofs.Bools.{cases, either}
+use Rattle.report.specs.declared.kind.Kind.{Kind}
+use Rattle.report.specs.declared.kind.Kind.the-variants.{Step, Full}
 use Rattle.mirror.specs.Mirror.{dueAt}
 use Rattle.mirror.specs.Count.{Heard, Count, shownAfter, counted, tally}
 use Rattle.mirror.specs.Demand3.{largest}

@@ -1,19 +1,13 @@
--- The laws of reports and mirrors, and demand 3.
-pub mod Masks
-pub mod Screens
-pub mod RoundTrips
+-- The laws of the mirror, and the proof of demand 3.
+pub mod MirrorLaws
+pub mod ArriveRows
 pub mod Conditions
-pub mod BytesBack
+pub mod ArriveJudged
+pub mod ArriveLeft
+pub mod RoundTrips
 pub mod Refusals
-pub mod Calls
-pub mod Runs
 pub mod Counts
+pub mod Screens
+pub mod Runs
 pub mod Arrivals
 pub mod Claims
-pub mod RowByRow
-pub mod Making
-pub mod Checks
-pub mod Mirrors
-pub mod Taking
-pub mod Judging
-pub mod Leaving

@@ -10,14 +10,15 @@ use native.Mathlib.Omega.{arith}
 use lib.Dec.{ltb}
 use lib.ListN.{length, take, drop, replicate}
 use borrow.Author.Tests.{ltb-true, ltb-false, eqb-true}
-use Rattle.grid.specs.Screen.{Row, Screen, every, printable, zerob, validRow, validScreen, sameRow, differing, number, touchedRows}
+use Rattle.grid.specs.Screen.{Row, Screen, printable, validRow, validScreen, sameRow, differing, number, touchedRows}
+use Rattle.bytes.specs.Test.{every, zerob}
 use Rattle.grid.specs.Facts.{RowFacts, ScreenFacts}
-use Rattle.grid.proofs.Bools.{and-left, and-right}
-use Rattle.grid.proofs.Masks.{length-differing}
+use Rattle.bytes.proofs.Bools.{and-left, and-right}
+use Rattle.grid.proofs.TouchedLaws.{length-differing}
 use Rattle.grid.proofs.Validity.{row-facts, screen-facts}
-use Rattle.mirror.specs.Layout.{ALL-ROWS}
-use Rattle.mirror.specs.Report.{bits}
-use Rattle.mirror.proofs.Masks.{Covers, same-row, differing-covers, all-cover, bits-number}
+use Rattle.report.specs.Layout.{ALL-ROWS}
+use Rattle.report.specs.Carried.{bits}
+use Rattle.report.proofs.Carried.{Covers, same-row, differing-covers, all-cover, bits-number}
 
 -- ---- two widths
 

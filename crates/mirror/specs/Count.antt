@@ -4,10 +4,13 @@
 use Prim.Native.Nat.{ℕ, _+_, max}
 use mathlib.Core.List.{List, foldl}
 use lib.Dec.{ltb, eqb}
-use Rattle.grid.specs.Choice.{if_then_else_}
-use Rattle.grid.specs.Record.{fourAt}
-use Rattle.mirror.specs.Layout.{REPORT-SERIAL}
-use Rattle.mirror.specs.Report.{Kind, Step, Full, kindAt}
+use Rattle.bytes.specs.Choice.{if_then_else_}
+use Rattle.bytes.specs.Number.{fourAt}
+use lib.ListN.{getD}
+use Rattle.report.specs.Layout.{KIND, REPORT-SERIAL}
+use Rattle.report.specs.declared.kind.Kind.{Kind}
+use Rattle.report.specs.declared.kind.Kind.the-variants.{Step, Full}
+use Rattle.report.specs.Kind.{kindOf}
 
 -- what is counted of a report
 pub record Heard : Type 0 where
@@ -15,7 +18,7 @@ pub record Heard : Type 0 where
   pub serial : ℕ
 
 unfoldable pub heardIn : List ℕ → Heard
-heardIn b = record { kind = kindAt b; serial = fourAt b REPORT-SERIAL }
+heardIn b = record { kind = kindOf (getD b KIND 0); serial = fourAt b REPORT-SERIAL }
 
 pub record Count : Type 0 where
   pub m : ℕ

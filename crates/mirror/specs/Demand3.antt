@@ -1,24 +1,30 @@
 -- Demand 3 of document 01, whole and in one statement: whatever the line does to whole reports, the mirror shows exactly the screen after the first m
 -- accepted calls, and says truthfully whether that is the newest one it has heard of. `proofs/Claims.antt` proves it: `demand-3 : Demand3`.
 -- All that happens here happens by the definitions that the exported contracts cite, on bytes: `creating`, `changing`, `reporting`, `creatingMirror`,
--- `arrival`. m and n are counted by `tally` (specs/Count.antt), which knows nothing of arrival.
+-- `arrival`; what a list of calls leaves and which of them are accepted is said in `editor/specs/Lists`. m and n are counted by `tally`
+-- (specs/Count.antt), which knows nothing of arrival.
 -- Assumes nothing.
 use Prim.Native.Nat.{ℕ, _+_, _≤_, max}
 use mathlib.Core.Path.{_≡_}
-use mathlib.Core.Bool.{Bool, true, false}
+use mathlib.Core.Bool.{true, false}
 use mathlib.Core.List.{List, [], _∷_, _++_, foldl}
 use mathlib.Core.Logic.{_↔_}
-use lib.Dec.{ltb, eqb}
+use lib.Dec.{eqb}
 use lib.ListN.{length, take, drop}
-use Rattle.grid.specs.Choice.{if_then_else_}
-use Rattle.grid.specs.Answer.{refused}
+use Rattle.bytes.specs.Choice.{if_then_else_}
+use Rattle.bytes.specs.Answer.{isRefusal}
+use Rattle.bytes.specs.Number.{fourAt}
 use Rattle.grid.specs.Layout.{SIZE}
 use Rattle.grid.specs.Screen.{Screen, newScreen}
-use Rattle.grid.specs.Record.{fourAt, serialOf, stateBytes}
-use Rattle.editor.specs.Call.{Call, apply}
-use Rattle.editor.specs.Outcome.{changing, creating}
-use Rattle.mirror.specs.Layout.{LONGEST, MIRROR-SIZE, NEWEST, RECORD}
-use Rattle.mirror.specs.Report.{Kind, Step, Full, reporting}
+use Rattle.grid.specs.Record.{serialOf, stateBytes}
+use Rattle.editor.specs.Call.{Call}
+use Rattle.editor.specs.Lists.{recordLeft, accepted, screenLeft}
+use Rattle.editor.specs.Outcome.{creating}
+use Rattle.report.specs.Layout.{LONGEST}
+use Rattle.report.specs.declared.kind.Kind.{Kind}
+use Rattle.report.specs.declared.kind.Kind.the-variants.{Step, Full}
+use Rattle.report.specs.Report.{reporting}
+use Rattle.mirror.specs.Layout.{MIRROR-SIZE, NEWEST, RECORD}
 use Rattle.mirror.specs.Mirror.{creatingMirror, arrival}
 use Rattle.mirror.specs.Count.{Heard, heardIn, tally}
 
@@ -33,16 +39,6 @@ pub record Run : Type 0 where
   pub mirror-size : length mirror-buffer ≡ MIRROR-SIZE
   pub calls : List Call
 
--- a number above 4,294,967,040 is that of a refusal
-unfoldable pub isRefusal : ℕ → Bool
-isRefusal number = ltb (refused 0) number
-
--- the accepted ones of some calls, of which the first finds the record l and each later one what the call before left:
--- those whose number is no refusal
-unfoldable pub accepted : List ℕ → List Call → List Call
-accepted l [] = []
-accepted l (c ∷ cs) = if isRefusal (changing c l .number) then accepted (changing c l .rec) cs else c ∷ accepted (changing c l .rec) cs
-
 module _ (run : Run) where
   -- the record that new screen leaves
   unfoldable pub newRecord : List ℕ
@@ -50,7 +46,7 @@ module _ (run : Run) where
 
   -- the record after the first k calls (after all, if they are fewer)
   unfoldable pub recordAfter : ℕ → List ℕ
-  recordAfter k = foldl (λ l c. changing c l .rec) newRecord (take k (run .calls))
+  recordAfter k = recordLeft newRecord (take k (run .calls))
 
   -- how many of the first k calls are accepted
   unfoldable pub acceptedBy : ℕ → ℕ
@@ -58,7 +54,7 @@ module _ (run : Run) where
 
   -- the screen after the first m accepted calls, by the rules alone: from the new screen of the width, and these calls with their arguments
   unfoldable pub screenAfter : ℕ → Screen
-  screenAfter m = foldl (λ s c. apply c s) (newScreen (run .width)) (take m (accepted newRecord (run .calls)))
+  screenAfter m = screenLeft (newScreen (run .width)) (take m (accepted newRecord (run .calls)))
 
 -- ---- the second list: arrivals
 
@@ -126,7 +122,7 @@ module _ (run : Run) where
     pub shown : shownIn (mirrorAfter run seen) ≡ m run seen
     -- its screen record is that of the screen after m accepted calls, serial m, touched 0
     pub screen : drop RECORD (mirrorAfter run seen)
-        ≡ stateBytes (record { screen = screenAfter run (m run seen); serial = m run seen; touched = 0 })
+        ≡ stateBytes (record { screen = screenAfter run (m run seen); stamp = record { serial = m run seen; touched = 0 } })
     -- its serials are equal exactly when m is the largest serial arrived
     pub level : (shownIn (mirrorAfter run seen) ≡ newestIn (mirrorAfter run seen)) ↔ (m run seen ≡ largest (heard run seen))
 

@@ -1,48 +1,7 @@
--- Where the fields of a report and of a mirror stand, how long they are, and their versions: the one place of the definitions that names them.
+-- Where the fields of a mirror stand, how long it is, and its version: the one place of the definitions that names them.
+-- `src/layout.rt` has the same names.
 -- Assumes nothing.
 use Prim.Native.Nat.{ℕ}
-
--- ---- a report
-
-abbrev pub REPORT-VERSION : ℕ
-REPORT-VERSION = 1
-
-abbrev pub KIND : ℕ
-KIND = 3
-
-abbrev pub REPORT-SERIAL : ℕ
-REPORT-SERIAL = 4
-
-abbrev pub MASK : ℕ
-MASK = 8
-
--- the record's bytes 3 to 8
-abbrev pub HEAD : ℕ
-HEAD = 12
-
-abbrev pub ROWS : ℕ
-ROWS = 18
-
--- the bytes of a row: flag, 80 characters, 80 attributes
-abbrev pub ROW-SIZE : ℕ
-ROW-SIZE = 161
-
--- the longest report, with all 25 rows: the shortest output that is taken
-abbrev pub LONGEST : ℕ
-LONGEST = 4043
-
--- the kinds
-abbrev pub STEP : ℕ
-STEP = 1
-
-abbrev pub FULL : ℕ
-FULL = 2
-
--- the mask of all 25 rows
-abbrev pub ALL-ROWS : ℕ
-ALL-ROWS = 33554431
-
--- ---- a mirror
 
 abbrev pub MIRROR-SIZE : ℕ
 MIRROR-SIZE = 4049
@@ -53,5 +12,6 @@ MIRROR-VERSION = 1
 abbrev pub NEWEST : ℕ
 NEWEST = 3
 
+-- a screen record
 abbrev pub RECORD : ℕ
 RECORD = 7

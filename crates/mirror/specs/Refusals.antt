@@ -1,40 +1,24 @@
--- Document 01, "What a call answers" and "Reports and mirror": when exactly a report call, new mirror and an arrival are refused. The conditions are
--- written out here, apart from the tests by which `specs/Report.antt` and `specs/Mirror.antt` find a refusal. `proofs/Refusals.antt` has that the
--- calls answer by them.
+-- Document 01, "What a call answers" and "Reports and mirror": when exactly new mirror and an arrival are refused, and what a valid mirror is. The
+-- conditions are written out here, apart from the tests by which `specs/Mirror.antt` finds a refusal. `proofs/Refusals.antt` has that the calls answer
+-- by them.
 -- Assumes nothing.
-use Prim.Native.Nat.{ℕ, _+_, _-_, _*_, _/_, _%_, _≤_, _<_}
+use Prim.Native.Nat.{ℕ, _+_, _/_, _%_, _≤_, _<_}
 use mathlib.Core.Path.{_≡_}
-use mathlib.Core.Bool.{true}
 use mathlib.Core.List.{List}
 use mathlib.Core.Logic.{_≢_}
 use lib.ListN.{length, getD, drop}
-use lib.Count.{ones}
-use Rattle.grid.specs.Choice.{if_then_else_}
-use Rattle.grid.specs.Answer.{refused, wrote}
-use Rattle.grid.specs.Layout.{SIZE, WIDTH, MASKS}
-use Rattle.grid.specs.Screen.{every, validRow}
-use Rattle.grid.specs.Record.{number2, fourAt, headOf, serialOf, touchedOf}
-use Rattle.grid.specs.Facts.{HeadFacts, Valid}
-use Rattle.editor.specs.Refusals.{Refuses}
-use Rattle.mirror.specs.Layout.{REPORT-VERSION, KIND, REPORT-SERIAL, MASK, HEAD, ROWS, ROW-SIZE, LONGEST, STEP, FULL, ALL-ROWS, MIRROR-SIZE, MIRROR-VERSION, NEWEST, RECORD}
-use Rattle.mirror.specs.Report.{Kind, carriedRows, readReport, reported, reporting}
-use Rattle.mirror.specs.Mirror.{newMirror, mirrorBytes, readMirror, due, noted, applied, leaving, creatingMirror, arrival}
+use Rattle.bytes.specs.Answer.{refused}
+use Rattle.bytes.specs.Number.{fourAt}
+use Rattle.bytes.specs.Refusals.{Refuses}
+use Rattle.grid.specs.Record.{headAt, headOf, serialOf, touchedOf}
+use Rattle.grid.specs.Facts.{Valid}
+use Rattle.report.specs.Layout.{KIND, REPORT-SERIAL, MASK, HEAD, STEP, ALL-ROWS}
+use Rattle.report.specs.Report.{readReport}
+use Rattle.report.specs.Refusals.{ValidReport}
+use Rattle.mirror.specs.Layout.{MIRROR-SIZE, MIRROR-VERSION, NEWEST, RECORD}
+use Rattle.mirror.specs.Mirror.{newMirror, mirrorBytes, readMirror, taken, leaving, creatingMirror, arrival}
 
--- ---- what a valid report and a valid mirror are
-
--- the byte of the kind, and the mask: below 2 ^ 25 and, if full, that of all rows
-pub data KindFits (kind mask : ℕ) : Type 0 where
-  step : kind ≡ STEP → mask < MASKS → KindFits kind mask
-  full : kind ≡ FULL → mask ≡ ALL-ROWS → KindFits kind mask
-
-pub record ValidReport (b : List ℕ) : Type 0 where
-  pub size : length b ≡ ROWS + ROW-SIZE * ones (fourAt b MASK)
-  pub field : number2 (getD b 0 0) (getD b 1 0) ≡ length b
-  pub version : getD b 2 0 ≡ REPORT-VERSION
-  pub kind : KindFits (getD b KIND 0) (fourAt b MASK)
-  pub head : HeadFacts (headOf (drop (HEAD - WIDTH) b))
-  -- its rows are judged by its own width
-  pub rows : every (validRow (headOf (drop (HEAD - WIDTH) b) .width)) (carriedRows (ones (fourAt b MASK)) (drop ROWS b)) ≡ true
+-- ---- a valid mirror
 
 pub record ValidMirror (l : List ℕ) : Type 0 where
   pub size : length l ≡ MIRROR-SIZE
@@ -44,18 +28,6 @@ pub record ValidMirror (l : List ℕ) : Type 0 where
   pub record-valid : Valid (drop RECORD l)
   pub untouched : touchedOf (drop RECORD l) ≡ 0
   pub behind : serialOf (drop RECORD l) ≤ fourAt l NEWEST
-
--- ---- report calls
-
-pub data ReportRefused (l out : List ℕ) : ℕ → Type 0 where
-  record-length : length l ≢ SIZE → ReportRefused l out 1
-  output-length : length out < LONGEST → ReportRefused l out 1
-  layout : ¬ Valid l → ReportRefused l out 2
-
-pub record ReportingAnswers (kind : Kind) (l out : List ℕ) : Type 0 where
-  pub number : Refuses (ReportRefused l out) (reporting kind l out .number)
-  pub kept : refused 1 ≤ reporting kind l out .number → reporting kind l out .bytes ≡ out
-  pub done : reporting kind l out .number < refused 1 → reporting kind l out ≡ wrote (reported kind l) out
 
 -- ---- new mirror
 
@@ -73,7 +45,7 @@ pub record CreatingMirrorAnswers (w : ℕ) (l : List ℕ) : Type 0 where
 pub record WidthWithoutRows (l b : List ℕ) : Type 0 where
   pub kind : getD b KIND 0 ≡ STEP
   pub next : fourAt b REPORT-SERIAL ≡ serialOf (drop RECORD l) + 1
-  pub width : headOf (drop (HEAD - WIDTH) b) .width ≢ headOf (drop RECORD l) .width
+  pub width : headAt b HEAD .width ≢ headOf (drop RECORD l) .width
   pub mask : fourAt b MASK ≢ ALL-ROWS
 
 -- an arriving slice of any wrong length is 5, never 1
@@ -87,5 +59,4 @@ pub record ArrivalAnswers (l b : List ℕ) : Type 0 where
   pub number : Refuses (ArrivalRefused l b) (arrival l b .number)
   -- refused, it changes no byte, the newest serial included
   pub kept : refused 1 ≤ arrival l b .number → arrival l b .bytes ≡ l
-  pub done : arrival l b .number < refused 1
-      → arrival l b ≡ leaving (if due (readReport b) (readMirror l) then applied (readReport b) (readMirror l) else noted (readReport b) (readMirror l))
+  pub done : arrival l b .number < refused 1 → arrival l b ≡ leaving (taken (readReport b) (readMirror l))

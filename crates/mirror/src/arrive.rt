@@ -1,37 +1,37 @@
 // A report arrives at a mirror.
-use crate::check::report_ok;
-use crate::layout::ALL_ROWS;
-use crate::layout::FULL;
-use crate::layout::HEAD;
-use crate::layout::KIND;
-use crate::layout::MASK;
 use crate::layout::MIRROR_SIZE;
 use crate::layout::NEWEST;
 use crate::layout::RECORD;
-use crate::layout::REPORT_SERIAL;
-use crate::layout::ROW_SIZE;
-use crate::layout::ROWS;
 use crate::mirror;
-use grid::answer::REFUSED;
+use bytes::answer::REFUSED;
+use bytes::number;
 use grid::head;
 use grid::layout::SCREEN_ROWS;
 use grid::layout::STRIDE;
-use grid::layout::WIDTH;
-use grid::mask;
-use grid::part;
 use grid::row;
+use report::check::report_ok;
+use report::front::read_front;
+use report::kind::Kind;
+use report::kind::rows_at;
+use report::layout::ALL_ROWS;
+use report::layout::REPORT_SERIAL;
+use report::layout::ROW_SIZE;
+use values::mask;
 ghost use mathlib.Core.Path.{_≡_};
 ghost use Prim.Native.Nat.{_+_, _*_, _≤_, _<_, max};
+ghost use lib.Dec.{eqb};
 ghost use lib.ListN.{length, drop};
 ghost use lib.Count.{ones};
+ghost use Rattle.bytes.specs.Answer.{Writes};
 ghost use Rattle.grid.specs.Layout.{SIZE};
 ghost use Rattle.grid.specs.Record.{serialOf, rowsOf, readState, stateBytes, Becomes};
-ghost use Rattle.grid.specs.Answer.{Writes};
-ghost use Rattle.mirror.specs.Layout.{ROWS, ROW-SIZE, MIRROR-SIZE, RECORD};
-ghost use Rattle.mirror.specs.Report.{bits, carriedRows, readReport};
-ghost use Rattle.mirror.specs.Mirror.{due, widthWithoutRows, merge, shown, noted, applied, readMirror, leaving, arrived, arrival};
-ghost use Rattle.mirror.specs.Refusals.{ValidReport};
-ghost use Rattle.mirror.specs.Parts.{levelOf, Room, Placed, Takes, Ready};
+ghost use Rattle.report.specs.Layout.{ROW-SIZE};
+ghost use Rattle.report.specs.Carried.{bits, merge};
+ghost use Rattle.report.specs.Report.{carriedRows, readReport};
+ghost use Rattle.report.specs.Refusals.{ValidReport};
+ghost use Rattle.mirror.specs.Layout.{MIRROR-SIZE, RECORD};
+ghost use Rattle.mirror.specs.Mirror.{dueAt, due, widthWithoutRows, shown, noted, applied, readMirror, levelOf, leaving, arrived, arrival};
+ghost use Rattle.mirror.specs.Parts.{Room, Placed, PlacedIf, Ready};
 
 // What becomes of an arriving report.
 pub enum Arrived {
@@ -62,21 +62,34 @@ fn shown_serial(mir: &[u8]) -> u32
     head::read_serial(&mir[RECORD..])
 }
 
-// A step is applied if s = m + 1, a full report if s > m.
-fn due(mir: &[u8], report: &[u8]) -> bool
-    requires { ⌜ Ready (now mir) (now report) ⌝ }
-    ensures { λ t. ⌜ t ≡ due (readReport (now (report .entry))) (readMirror (now (mir .entry))) ⌝ }
+// Is s = m + 1? The last serial has no m + 1.
+fn follows(s: u32, m: u32) -> bool
+    ensures { λ t. ⌜ t ≡ eqb s (m + 1) ⌝ }
 {
-    let m = shown_serial(mir);
-    let s = part::four_at(report, REPORT_SERIAL);
-    if report[KIND] == FULL {
-        return m < s;
-    }
-    // The last serial has no m + 1.
     if s <= m {
         return false;
     }
     s - m == 1
+}
+
+// A step is applied if s = m + 1, a full report if s > m.
+fn due_at(kind: Kind, s: u32, m: u32) -> bool
+    ensures { λ t. ⌜ t ≡ dueAt kind s m ⌝ }
+{
+    match kind {
+        Kind::Step => follows(s, m),
+        Kind::Full => m < s,
+    }
+}
+
+fn due(mir: &[u8], report: &[u8]) -> bool
+    requires { ⌜ Ready (now mir) (now report) ⌝ }
+    ensures { λ t. ⌜ t ≡ due (readReport (now (report .entry))) (readMirror (now (mir .entry))) ⌝ }
+{
+    let f = read_front(report);
+    let m = shown_serial(mir);
+    let kind = f.kind;
+    due_at(kind, f.serial, m)
 }
 
 // Does the report change the width without carrying all 25 rows?
@@ -84,13 +97,12 @@ fn width_without_rows(mir: &[u8], report: &[u8]) -> bool
     requires { ⌜ Ready (now mir) (now report) ⌝ }
     ensures { λ t. ⌜ t ≡ widthWithoutRows (readReport (now (report .entry))) (readMirror (now (mir .entry))) ⌝ }
 {
-    let h = head::head_at(report, HEAD - WIDTH);
-    let g = head::head_at(mir, RECORD);
-    let mask = part::four_at(report, MASK);
-    if h.width == g.width {
+    let f = read_front(report);
+    let g = head::read_head(&mir[RECORD..]);
+    if f.head.width == g.width {
         return false;
     }
-    mask != ALL_ROWS
+    f.mask != ALL_ROWS
 }
 
 fn judged(mir: &[u8], report: &[u8]) -> Arrived
@@ -126,7 +138,7 @@ fn place_row(rec: &mut [u8], r: usize, report: &[u8], at: usize) -> usize
 // The same if the mask has the row.
 fn take_row(rec: &mut [u8], r: usize, report: &[u8], at: usize, mask: u32) -> usize
     requires { ⌜ (length (now rec) ≡ SIZE) × (r < 25) × Room (now report) mask r at ⌝ }
-    ensures { λ n. ⌜ Takes (now (report .entry)) mask r at (now (rec .entry)) (now (rec .exit)) n ⌝ }
+    ensures { λ n. ⌜ PlacedIf (now (report .entry)) mask r at (now (rec .entry)) (now (rec .exit)) n ⌝ }
 {
     if !mask::has_row(mask, r) {
         return at;
@@ -134,12 +146,12 @@ fn take_row(rec: &mut [u8], r: usize, report: &[u8], at: usize, mask: u32) -> us
     place_row(rec, r, report, at)
 }
 
-// Replaces the rows of the mask by the carried ones.
-fn take_rows(rec: &mut [u8], report: &[u8], mask: u32)
-    requires { ⌜ (length (now rec) ≡ SIZE) × (length (now report) ≡ ROWS + ROW-SIZE * ones mask) ⌝ }
-    ensures { λ _. ⌜ Becomes (now (rec .entry)) (now (rec .exit)) (merge (bits 25 mask) (carriedRows (ones mask) (drop ROWS (now (report .entry)))) (rowsOf (now (rec .entry)))) ⌝ }
+// Replaces the rows of the mask by the carried ones, which stand from index from on.
+fn take_rows(rec: &mut [u8], report: &[u8], from: usize, mask: u32)
+    requires { ⌜ (length (now rec) ≡ SIZE) × (length (now report) ≡ from + ROW-SIZE * ones mask) ⌝ }
+    ensures { λ _. ⌜ Becomes (now (rec .entry)) (now (rec .exit)) (merge (bits 25 mask) (carriedRows (ones mask) (drop from (now (report .entry)))) (rowsOf (now (rec .entry)))) ⌝ }
 {
-    let mut at = ROWS;
+    let mut at = from;
     let mut r = 0;
     while r < SCREEN_ROWS {
         at = take_row(rec, r, report, at, mask);
@@ -152,11 +164,15 @@ fn show(rec: &mut [u8], report: &[u8])
     requires { ⌜ (length (now rec) ≡ SIZE) × ValidReport (now report) ⌝ }
     ensures { λ _. ⌜ now (rec .exit) ≡ stateBytes (shown (readReport (now (report .entry))) (readState (now (rec .entry)))) ⌝ }
 {
-    let h = head::head_at(report, HEAD - WIDTH);
-    let s = part::four_at(report, REPORT_SERIAL);
-    let mask = part::four_at(report, MASK);
-    take_rows(rec, report, mask);
-    head::write_front(rec, h, s, 0);
+    let f = read_front(report);
+    let kind = f.kind;
+    let h = f.head;
+    take_rows(rec, report, rows_at(kind), f.mask);
+    let stamp = head::Stamp {
+        serial: f.serial,
+        touched: 0,
+    };
+    head::write_front(rec, h, stamp);
 }
 
 fn note(mir: &mut [u8], report: &[u8]) -> u32
@@ -164,8 +180,8 @@ fn note(mir: &mut [u8], report: &[u8]) -> u32
     ensures { λ n. ⌜ Writes (leaving (noted (readReport (now (report .entry))) (readMirror (now (mir .entry))))) n (now (mir .exit)) ⌝ }
 {
     let m = shown_serial(mir);
-    let s = part::four_at(report, REPORT_SERIAL);
-    let n = larger(part::four_at(mir, NEWEST), s);
+    let s = number::four_at(report, REPORT_SERIAL);
+    let n = larger(number::four_at(mir, NEWEST), s);
     mirror::write_front(mir, n);
     level(m, n)
 }
@@ -174,8 +190,8 @@ fn apply(mir: &mut [u8], report: &[u8]) -> u32
     requires { ⌜ Ready (now mir) (now report) ⌝ }
     ensures { λ n. ⌜ Writes (leaving (applied (readReport (now (report .entry))) (readMirror (now (mir .entry))))) n (now (mir .exit)) ⌝ }
 {
-    let s = part::four_at(report, REPORT_SERIAL);
-    let n = larger(part::four_at(mir, NEWEST), s);
+    let s = number::four_at(report, REPORT_SERIAL);
+    let n = larger(number::four_at(mir, NEWEST), s);
     show(&mut mir[RECORD..], report);
     mirror::write_front(mir, n);
     level(s, n)

@@ -1,31 +1,10 @@
-// Where the fields of a report and of a mirror stand, how long they are, and their versions: the one place of the code that names them.
+// Where the fields of a mirror stand, how long it is, and its version: the one place of the code that names them.
 // `specs/Layout.antt` has the same names.
-pub const REPORT_VERSION: u8 = 1;
-
-pub const KIND: usize = 3;
-
-pub const REPORT_SERIAL: usize = 4;
-
-pub const MASK: usize = 8;
-// The record's bytes 3 to 8.
-pub const HEAD: usize = 12;
-
-pub const ROWS: usize = 18;
-// The bytes of a row: flag, 80 characters, 80 attributes.
-pub const ROW_SIZE: usize = 161;
-// The longest report, with all 25 rows: the shortest output that is taken.
-pub const LONGEST: usize = 4043;
-
-pub const STEP: u8 = 1;
-
-pub const FULL: u8 = 2;
-// The mask of all 25 rows.
-pub const ALL_ROWS: u32 = 33554431;
-
 pub const MIRROR_SIZE: usize = 4049;
 
 pub const MIRROR_VERSION: u8 = 1;
 
 pub const NEWEST: usize = 3;
 
+// A screen record.
 pub const RECORD: usize = 7;

@@ -3,16 +3,15 @@ use crate::layout::MIRROR_SIZE;
 use crate::layout::MIRROR_VERSION;
 use crate::layout::NEWEST;
 use crate::layout::RECORD;
-use grid::answer::REFUSED;
+use bytes::answer::REFUSED;
+use bytes::number;
 use grid::head;
-use grid::part;
 ghost use mathlib.Core.Path.{_≡_};
 ghost use mathlib.Core.List.{_++_};
 ghost use lib.ListN.{length, drop};
-ghost use Rattle.grid.specs.Answer.{Writes};
+ghost use Rattle.bytes.specs.Answer.{Writes};
 ghost use Rattle.mirror.specs.Layout.{MIRROR-SIZE, RECORD};
-ghost use Rattle.mirror.specs.Mirror.{mirrorb, creatingMirror};
-ghost use Rattle.mirror.specs.Parts.{mirrorFront, mirrorFrontb, shownb};
+ghost use Rattle.mirror.specs.Mirror.{mirrorFront, mirrorFrontb, shownb, mirrorb, creatingMirror};
 
 fn front_ok(mir: &[u8]) -> bool
     requires { ⌜ length (now mir) ≡ MIRROR-SIZE ⌝ }
@@ -32,7 +31,7 @@ fn shown_ok(mir: &[u8]) -> bool
     requires { ⌜ length (now mir) ≡ MIRROR-SIZE ⌝ }
     ensures { λ t. ⌜ t ≡ shownb (now (mir .entry)) ⌝ }
 {
-    let n = part::four_at(mir, NEWEST);
+    let n = number::four_at(mir, NEWEST);
     let rec = &mir[RECORD..];
     if !grid::valid::valid(rec) {
         return false;
@@ -61,7 +60,7 @@ pub fn write_front(mir: &mut [u8], newest: u32)
     requires { ⌜ length (now mir) ≡ MIRROR-SIZE ⌝ }
     ensures { λ _. ⌜ now (mir .exit) ≡ mirrorFront newest ++ drop RECORD (now (mir .entry)) ⌝ }
 {
-    part::put4(mir, NEWEST, newest);
+    number::put4(mir, NEWEST, newest);
     mir[0] = (MIRROR_SIZE / 256) as u8;
     mir[1] = (MIRROR_SIZE % 256) as u8;
     mir[2] = MIRROR_VERSION;

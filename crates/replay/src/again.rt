@@ -3,27 +3,29 @@ ghost use mathlib.Core.Path.{_≡_};
 ghost use lib.ListN.{length};
 use crate::entry;
 use calls::fresh;
+use calls::lines;
 use calls::modes;
 use calls::motion;
-use calls::printing;
-use calls::texts;
+use calls::print;
+use calls::tab;
 use calls::typing;
+use calls::words;
 
 // What no call answers: there is none with this tag.
 pub const NO_CALL: u32 = 4294967295;
 
 fn edit(tag: u8, ch: u32, rec: &mut [u8], input: &[u8], out: &mut [u8]) -> u32 {
     match tag {
-        1 => printing::print_bytes(rec, input),
+        1 => print::print_bytes(rec, input),
         2 => typing::type_char(rec, ch),
         3 => typing::backspace(rec),
         4 => typing::delete_char(rec),
         5 => typing::erase_to_end(rec),
-        6 => typing::escape_line(rec),
-        7 => typing::tab(rec),
-        8 => typing::ctrl_enter(rec),
-        9 => texts::take_logical_line(rec, out),
-        10 => typing::break_line(rec),
+        6 => lines::escape_line(rec),
+        7 => tab::tab(rec),
+        8 => lines::ctrl_enter(rec),
+        9 => lines::take_logical_line(rec, out),
+        10 => lines::break_line(rec),
         _ => NO_CALL,
     }
 }
@@ -35,8 +37,8 @@ fn move_cursor(tag: u8, rec: &mut [u8]) -> u32 {
         13 => motion::move_up(rec),
         14 => motion::move_down(rec),
         15 => motion::home(rec),
-        16 => motion::word_left(rec),
-        17 => motion::word_right(rec),
+        16 => words::word_left(rec),
+        17 => words::word_right(rec),
         18 => motion::end_of_line(rec),
         _ => NO_CALL,
     }

@@ -1,6 +1,6 @@
 -- `calls::finish::finish` meets its contract. Assumes nothing.
 use borrow.Author.Needs.{needs}
-use Rattle.calls.proofs.Finishing.{finished}
+use Rattle.calls.proofs.FinishLaws.{finished}
 use Rattle.calls.proofs.finish.finish.Statement.{statement}
 use Rattle.calls.proofs.finish.finish.Tie as tie
 
@@ -10,8 +10,8 @@ changed-rows-requires c κs = search needs
 read-serial-requires : tie.Need-read-serial-requires
 read-serial-requires c κs = search needs
 
-add-write-front : tie.Need-add-write-front
-add-write-front c = search needs
+add-next : tie.Need-add-next
+add-next c = search needs
 
 write-front-requires : tie.Need-write-front-requires
 write-front-requires c κs = search needs
@@ -28,7 +28,7 @@ finish-spec =
     (tie.spec
     changed-rows-requires
     read-serial-requires
-    add-write-front
+    add-next
     write-front-requires
     same-length
     returns)

@@ -1,6 +1,6 @@
 -- `calls::fresh::new_screen` meets its contract. Assumes nothing.
 use borrow.Author.Needs.{needs}
-use Rattle.calls.proofs.Asking.{new-refused, new-done}
+use Rattle.calls.proofs.FreshLaws.{new-refused, new-done}
 use Rattle.calls.proofs.fresh.new_screen.Statement.{statement}
 use Rattle.calls.proofs.fresh.new_screen.Tie as tie
 

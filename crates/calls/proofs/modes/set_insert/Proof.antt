@@ -1,9 +1,13 @@
 -- `calls::modes::set_insert` meets its contract. Assumes nothing.
 use borrow.Author.Needs.{needs}
-use Rattle.calls.proofs.Changing.{call-size, call-valid, call-range, call-serial, switch-fits, call-refused, moves-fits, move-done}
-use Rattle.editor.specs.Call.{roomy, inRange, submitted, rule}
+use Rattle.calls.proofs.Changing.{call-size, call-valid, call-serial, switch-fits, call-refused, moves-fits, move-done}
+use Rattle.calls.proofs.RefusalLaws.{range-known}
+use Rattle.editor.specs.Call.{lengths, own, answer, rule}
 use Rattle.calls.proofs.modes.set_insert.Statement.{statement}
 use Rattle.calls.proofs.modes.set_insert.Tie as tie
+
+range-refused-requires : tie.Need-range-refused-requires
+range-refused-requires c κs = search needs
 
 change-refused-requires : tie.Need-change-refused-requires
 change-refused-requires c κs = search needs
@@ -12,30 +16,31 @@ same-length : tie.Need-same-length
 same-length c = search needs
 
 returns : tie.Need-returns
-unfolding roomy inRange submitted rule
+unfolding lengths own rule
 returns c = search (needs, call-refused)
 
 cast-set-insert : tie.Need-cast-set-insert
-cast-set-insert c = search (needs, switch-fits, call-range)
+cast-set-insert c = search (needs, switch-fits, range-known)
 
 set-insert-requires : tie.Need-set-insert-requires
 set-insert-requires c κs = search (needs, call-valid)
 
 finish-move-requires : tie.Need-finish-move-requires
-unfolding roomy inRange submitted rule
+unfolding lengths own rule
 finish-move-requires c κs = (search (needs, call-size), search (needs, moves-fits), search (needs, call-serial))
 
 same-length-2 : tie.Need-same-length-2
 same-length-2 c = search needs
 
 returns-2 : tie.Need-returns-2
-unfolding roomy inRange submitted rule
+unfolding lengths own answer rule
 returns-2 c = search (needs, move-done)
 
 pub set-insert-spec : {M : Type 1} → statement M
 set-insert-spec =
     tie.close
     (tie.spec
+    range-refused-requires
     change-refused-requires
     same-length
     returns

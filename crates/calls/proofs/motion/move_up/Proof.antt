@@ -1,7 +1,8 @@
 -- `calls::motion::move_up` meets its contract. Assumes nothing.
 use borrow.Author.Needs.{needs}
 use Rattle.calls.proofs.Changing.{call-size, call-valid, call-serial, call-refused, moves-fits, move-done}
-use Rattle.editor.specs.Call.{roomy, inRange, submitted, rule}
+use Rattle.calls.proofs.RefusalLaws.{no-own}
+use Rattle.editor.specs.Call.{lengths, own, answer, rule}
 use Rattle.calls.proofs.motion.move_up.Statement.{statement}
 use Rattle.calls.proofs.motion.move_up.Tie as tie
 
@@ -12,22 +13,22 @@ same-length : tie.Need-same-length
 same-length c = search needs
 
 returns : tie.Need-returns
-unfolding roomy inRange submitted rule
-returns c = search (needs, call-refused)
+unfolding lengths own rule
+returns c = search (needs, call-refused, no-own)
 
 move-up-requires : tie.Need-move-up-requires
 move-up-requires c κs = search (needs, call-valid)
 
 finish-move-requires : tie.Need-finish-move-requires
-unfolding roomy inRange submitted rule
-finish-move-requires c κs = (search (needs, call-size), search (needs, moves-fits), search (needs, call-serial))
+unfolding lengths own rule
+finish-move-requires c κs = (search (needs, call-size), search (needs, moves-fits, no-own), search (needs, call-serial))
 
 same-length-2 : tie.Need-same-length-2
 same-length-2 c = search needs
 
 returns-2 : tie.Need-returns-2
-unfolding roomy inRange submitted rule
-returns-2 c = search (needs, move-done)
+unfolding lengths own answer rule
+returns-2 c = search (needs, move-done, no-own)
 
 pub move-up-spec : {M : Type 1} → statement M
 move-up-spec =

@@ -1,6 +1,6 @@
 -- `editor::lines::ctrl_enter` meets its contract. Assumes nothing.
 use borrow.Author.Needs.{needs}
-use Rattle.editor.proofs.Ended.{ctrl-last, ctrl-held, ctrl-done}
+use Rattle.editor.proofs.LinesLaws.{ctrl-last, ctrl-held, ctrl-done}
 use Rattle.editor.proofs.lines.ctrl_enter.Statement.{statement}
 use Rattle.editor.proofs.lines.ctrl_enter.Tie as tie
 

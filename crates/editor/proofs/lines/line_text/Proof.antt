@@ -1,6 +1,6 @@
 -- `editor::lines::line_text` meets its contract. Assumes nothing.
 use borrow.Author.Needs.{needs}
-use Rattle.editor.proofs.Ended.{line-read}
+use Rattle.editor.proofs.LinesLaws.{line-read}
 use Rattle.editor.proofs.lines.line_text.Statement.{statement}
 use Rattle.editor.proofs.lines.line_text.Tie as tie
 

@@ -1,6 +1,7 @@
 -- `editor::lines::on_blank_end` meets its contract. Assumes nothing.
 use borrow.Author.Needs.{needs}
-use Rattle.editor.proofs.Ended.{span-short, not-blank, blank-here, blank-elsewhere}
+use Rattle.editor.proofs.LinesLaws.{span-short, not-blank}
+use Rattle.editor.proofs.LinesLaws.{blank-here, blank-elsewhere}
 use Rattle.editor.proofs.lines.on_blank_end.Statement.{statement}
 use Rattle.editor.proofs.lines.on_blank_end.Tie as tie
 

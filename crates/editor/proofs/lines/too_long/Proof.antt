@@ -1,6 +1,6 @@
 -- `editor::lines::too_long` meets its contract. Assumes nothing.
 use borrow.Author.Needs.{needs}
-use Rattle.editor.proofs.Ended.{not-last, long-tested, long-mul, long-add}
+use Rattle.editor.proofs.LinesLaws.{not-last, long-tested, long-mul, long-add}
 use Rattle.editor.proofs.lines.too_long.Statement.{statement}
 use Rattle.editor.proofs.lines.too_long.Tie as tie
 

@@ -1,6 +1,6 @@
 -- `editor::print::newline` meets its contract. Assumes nothing.
 use borrow.Author.Needs.{needs}
-use Rattle.editor.proofs.PrintSteps.{row-above, newline-next, newline-back}
+use Rattle.editor.proofs.PrintLaws.{row-above, newline-next, newline-back}
 use Rattle.editor.proofs.print.newline.Statement.{statement}
 use Rattle.editor.proofs.print.newline.Tie as tie
 

@@ -1,6 +1,6 @@
 -- `editor::print::next_row` meets its contract. Assumes nothing.
 use borrow.Author.Needs.{needs}
-use Rattle.editor.proofs.PrintSteps.{next-below, next-last}
+use Rattle.editor.proofs.PrintLaws.{next-below, next-last}
 use Rattle.editor.proofs.print.next_row.Statement.{statement}
 use Rattle.editor.proofs.print.next_row.Tie as tie
 

@@ -2,9 +2,9 @@
 use mathlib.Core.Path.{refl}
 use native.Mathlib.Omega.{arith}
 use borrow.Author.Tests.{eq-eqb, ne-eqb}
-use Rattle.grid.specs.Moves.{left}
+use Rattle.values.specs.Cursor.{left}
 use Rattle.grid.specs.Screen.{isSpace}
-use Rattle.grid.specs.Choice.{if_then_else_}
+use Rattle.bytes.specs.Choice.{if_then_else_}
 use Rattle.editor.proofs.print.not_space.Statement.{statement}
 use Rattle.editor.proofs.print.not_space.Tie as tie
 

@@ -1,8 +1,8 @@
 -- `editor::print::print_byte` meets its contract. Assumes nothing.
 use borrow.Author.Needs.{needs}
 use Rattle.editor.specs.Print.{printByte}
-use Rattle.editor.proofs.PrintSteps.{leaves-then, leaves-else, left-still, byte-put, byte-ignored}
-use Rattle.grid.proofs.Bools.{choice}
+use Rattle.editor.proofs.PrintLaws.{leaves-then, leaves-else, left-still, byte-put, byte-ignored}
+use Rattle.bytes.proofs.Bools.{choice}
 use Rattle.editor.proofs.print.print_byte.Statement.{statement}
 use Rattle.editor.proofs.print.print_byte.Tie as tie
 

@@ -2,7 +2,7 @@
 use Prim.Native.Nat.{_-_}
 use lib.ListN.{length}
 use borrow.Author.Needs.{needs}
-use Rattle.editor.proofs.PrintSteps.{Printing, printing-start, printing-turn, printing-end}
+use Rattle.editor.proofs.PrintLaws.{Printing, printing-start, printing-turn, printing-end}
 use Rattle.editor.proofs.print.print_bytes.Statement.{statement}
 use Rattle.editor.proofs.print.print_bytes.Tie as tie
 

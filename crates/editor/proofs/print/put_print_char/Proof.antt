@@ -1,6 +1,6 @@
 -- `editor::print::put_print_char` meets its contract. Assumes nothing.
 use borrow.Author.Needs.{needs}
-use Rattle.editor.proofs.PrintSteps.{put-inside, put-last}
+use Rattle.editor.proofs.PrintLaws.{put-inside, put-last}
 use Rattle.editor.proofs.print.put_print_char.Statement.{statement}
 use Rattle.editor.proofs.print.put_print_char.Tie as tie
 

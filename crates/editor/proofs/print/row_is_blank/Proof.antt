@@ -4,8 +4,9 @@ use Prim.Native.Nat.{_-_, _≤_}
 use lib.Dec.{eqb}
 use lib.ListN.{take}
 use borrow.Author.Needs.{needs}
-use Rattle.editor.proofs.PrintSteps.{spaces-start, spaces-turn, spaces-end}
-use Rattle.grid.specs.Screen.{isSpace, every}
+use Rattle.editor.proofs.PrintLaws.{spaces-start, spaces-turn, spaces-end}
+use Rattle.grid.specs.Screen.{isSpace}
+use Rattle.bytes.specs.Test.{every}
 use Rattle.grid.specs.Record.{rowOf}
 use Rattle.editor.proofs.print.row_is_blank.Statement.{statement}
 use Rattle.editor.proofs.print.row_is_blank.Tie as tie

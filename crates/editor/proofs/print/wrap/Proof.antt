@@ -1,6 +1,6 @@
 -- `editor::print::wrap` meets its contract. Assumes nothing.
 use borrow.Author.Needs.{needs}
-use Rattle.editor.proofs.PrintSteps.{wrap-end}
+use Rattle.editor.proofs.PrintLaws.{wrap-end}
 use Rattle.editor.proofs.print.wrap.Statement.{statement}
 use Rattle.editor.proofs.print.wrap.Tie as tie
 

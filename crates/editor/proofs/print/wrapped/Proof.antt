@@ -1,6 +1,6 @@
 -- `editor::print::wrapped` meets its contract. Assumes nothing.
 use borrow.Author.Needs.{needs}
-use Rattle.editor.proofs.PrintSteps.{wraps-col, wraps-row, wraps-flag, wraps-blank}
+use Rattle.editor.proofs.PrintLaws.{wraps-col, wraps-row, wraps-flag, wraps-blank}
 use Rattle.editor.proofs.print.wrapped.Statement.{statement}
 use Rattle.editor.proofs.print.wrapped.Tie as tie
 

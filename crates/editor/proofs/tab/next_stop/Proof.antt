@@ -1,6 +1,6 @@
 -- `editor::tab::next_stop` meets its contract. Assumes nothing.
 use borrow.Author.Needs.{needs}
-use Rattle.editor.proofs.Tabbed.{after-stop, next-stop}
+use Rattle.editor.proofs.TabLaws.{after-stop, next-stop}
 use Rattle.editor.proofs.tab.next_stop.Statement.{statement}
 use Rattle.editor.proofs.tab.next_stop.Tie as tie
 

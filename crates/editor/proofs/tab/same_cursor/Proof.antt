@@ -1,6 +1,6 @@
 -- `editor::tab::same_cursor` meets its contract. Assumes nothing.
 use borrow.Author.Needs.{needs}
-use Rattle.editor.proofs.Tabbed.{rows-same, rows-differ}
+use Rattle.editor.proofs.TabLaws.{rows-same, rows-differ}
 use Rattle.editor.proofs.tab.same_cursor.Statement.{statement}
 use Rattle.editor.proofs.tab.same_cursor.Tie as tie
 

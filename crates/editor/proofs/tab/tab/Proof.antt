@@ -1,6 +1,6 @@
 -- `editor::tab::tab` meets its contract. Assumes nothing.
 use borrow.Author.Needs.{needs}
-use Rattle.editor.proofs.Tabbed.{tab-done, tab-typed}
+use Rattle.editor.proofs.TabLaws.{tab-done, tab-typed}
 use Rattle.editor.proofs.tab.tab.Statement.{statement}
 use Rattle.editor.proofs.tab.tab.Tie as tie
 

@@ -1,6 +1,6 @@
 -- `editor::tab::tab_cursor` meets its contract. Assumes nothing.
 use borrow.Author.Needs.{needs}
-use Rattle.editor.proofs.Tabbed.{tab-column, tab-nowhere, tab-row}
+use Rattle.editor.proofs.TabLaws.{tab-column, tab-nowhere, tab-row}
 use Rattle.editor.proofs.tab.tab_cursor.Statement.{statement}
 use Rattle.editor.proofs.tab.tab_cursor.Tie as tie
 

@@ -1,11 +1,11 @@
 -- `editor::tab::type_space` meets its contract. Assumes nothing.
 use borrow.Author.Needs.{needs}
-use Rattle.editor.proofs.Tabbed.{space-typed, space-copied, space-old, space-fits}
+use Rattle.editor.proofs.TabLaws.{space-typed, space-copied, space-old, space-fits}
 use Rattle.editor.proofs.tab.type_space.Statement.{statement}
 use Rattle.editor.proofs.tab.type_space.Tie as tie
 
-snapshot-requires : tie.Need-snapshot-requires
-snapshot-requires c κs = search needs
+copy-of-requires : tie.Need-copy-of-requires
+copy-of-requires c κs = search needs
 
 slice-aggregate-type-char : tie.Need-slice-aggregate-type-char
 slice-aggregate-type-char c = search needs
@@ -29,7 +29,7 @@ pub type-space-spec : {M : Type 1} → statement M
 type-space-spec =
     tie.close
     (tie.spec
-    snapshot-requires
+    copy-of-requires
     slice-aggregate-type-char
     type-char-requires
     slice-aggregate-put-head

@@ -1,7 +1,7 @@
 -- `editor::tab::type_spaces` meets its contract. The invariant of its loop: i spaces are typed, and the rest leads to the answer. Assumes nothing.
 use Prim.Native.Nat.{_-_, _≤_}
 use borrow.Author.Needs.{needs}
-use Rattle.editor.proofs.Tabbed.{Spaced, spaced-start, spaced-still, spaced-turn, spaced-end}
+use Rattle.editor.proofs.TabLaws.{Spaced, spaced-start, spaced-still, spaced-turn, spaced-end}
 use Rattle.editor.proofs.tab.type_spaces.Statement.{statement}
 use Rattle.editor.proofs.tab.type_spaces.Tie as tie
 

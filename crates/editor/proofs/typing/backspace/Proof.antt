@@ -1,6 +1,6 @@
 -- `editor::typing::backspace` meets its contract. Assumes nothing.
 use borrow.Author.Needs.{needs}
-use Rattle.editor.proofs.Typed.{known, begun, cursor-row, index-low, index-before, backspaced, back-deleted}
+use Rattle.editor.proofs.TypingLaws.{known, begun, cursor-row, back-deleted, index-low, index-before, backspaced}
 use Rattle.editor.proofs.typing.backspace.Statement.{statement}
 use Rattle.editor.proofs.typing.backspace.Tie as tie
 

@@ -1,6 +1,6 @@
 -- `editor::typing::delete_char` meets its contract. Assumes nothing.
 use borrow.Author.Needs.{needs}
-use Rattle.editor.proofs.Typed.{known, begun, cursor-row, deleted-none, deleted}
+use Rattle.editor.proofs.TypingLaws.{known, begun, cursor-row, deleted-none, deleted}
 use Rattle.editor.proofs.typing.delete_char.Statement.{statement}
 use Rattle.editor.proofs.typing.delete_char.Tie as tie
 

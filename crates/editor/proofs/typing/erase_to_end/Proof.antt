@@ -1,6 +1,6 @@
 -- `editor::typing::erase_to_end` meets its contract. Assumes nothing.
 use borrow.Author.Needs.{needs}
-use Rattle.editor.proofs.Typed.{known, begun, cursor-row, erased}
+use Rattle.editor.proofs.TypingLaws.{known, begun, cursor-row, erased}
 use Rattle.editor.proofs.typing.erase_to_end.Statement.{statement}
 use Rattle.editor.proofs.typing.erase_to_end.Tie as tie
 

@@ -1,6 +1,6 @@
 -- `editor::typing::type_at` meets its contract. Assumes nothing.
 use borrow.Author.Needs.{needs}
-use Rattle.editor.proofs.Typed.{insert-full, extend-full, insert-done, replace-done, extend-done}
+use Rattle.editor.proofs.TypingLaws.{insert-full, extend-full, insert-done, replace-done, extend-done}
 use Rattle.editor.proofs.typing.type_at.Statement.{statement}
 use Rattle.editor.proofs.typing.type_at.Tie as tie
 

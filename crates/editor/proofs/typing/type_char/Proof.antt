@@ -1,6 +1,6 @@
 -- `editor::typing::type_char` meets its contract. Assumes nothing.
 use borrow.Author.Needs.{needs}
-use Rattle.editor.proofs.Typed.{known, begun, cursor-row, typed-ignored, typed-done}
+use Rattle.editor.proofs.TypingLaws.{known, begun, cursor-row, typed-ignored, typed-done}
 use Rattle.editor.proofs.typing.type_char.Statement.{statement}
 use Rattle.editor.proofs.typing.type_char.Tie as tie
 

@@ -1,6 +1,6 @@
 -- `grid::fresh::new_head` meets its contract. Assumes nothing.
 use borrow.Author.Needs.{needs}
-use Rattle.grid.proofs.Steps.{head-40, head-80}
+use Rattle.grid.proofs.FreshLaws.{head-40, head-80}
 use Rattle.grid.proofs.fresh.new_head.Statement.{statement}
 use Rattle.grid.proofs.fresh.new_head.Tie as tie
 

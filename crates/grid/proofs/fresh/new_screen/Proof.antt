@@ -1,6 +1,6 @@
 -- `grid::fresh::new_screen` meets its contract. Assumes nothing.
 use borrow.Author.Needs.{needs}
-use Rattle.grid.proofs.Steps.{new-width, new-fits, new-end}
+use Rattle.grid.proofs.FreshLaws.{new-width, new-fits, new-end}
 use Rattle.grid.proofs.fresh.new_screen.Statement.{statement}
 use Rattle.grid.proofs.fresh.new_screen.Tie as tie
 

@@ -1,7 +1,7 @@
 -- `grid::head::editable_rows` meets its contract. Assumes nothing.
 use borrow.Author.Needs.{needs}
 use Rattle.grid.specs.Screen.{editable}
-use Rattle.grid.proofs.Bools.{choice}
+use Rattle.bytes.proofs.Bools.{choice}
 use Rattle.grid.proofs.head.editable_rows.Statement.{statement}
 use Rattle.grid.proofs.head.editable_rows.Tie as tie
 

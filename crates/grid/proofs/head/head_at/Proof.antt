@@ -1,11 +1,8 @@
 -- `grid::head::head_at` meets its contract. Assumes nothing.
 use borrow.Author.Needs.{needs}
-use Rattle.grid.proofs.Record.{head-read}
+use Rattle.grid.proofs.HeadLaws.{head-read}
 use Rattle.grid.proofs.head.head_at.Statement.{statement}
 use Rattle.grid.proofs.head.head_at.Tie as tie
-
-add-wide : tie.Need-add-wide
-add-wide c = search needs
 
 shared-slice-read-wide : tie.Need-shared-slice-read-wide
 shared-slice-read-wide c = search needs
@@ -13,8 +10,8 @@ shared-slice-read-wide c = search needs
 wide-requires : tie.Need-wide-requires
 wide-requires c κs = search needs
 
-add-wide-2 : tie.Need-add-wide-2
-add-wide-2 c = search needs
+add-wide : tie.Need-add-wide
+add-wide c = search needs
 
 shared-slice-read-wide-2 : tie.Need-shared-slice-read-wide-2
 shared-slice-read-wide-2 c = search needs
@@ -22,8 +19,8 @@ shared-slice-read-wide-2 c = search needs
 wide-requires-2 : tie.Need-wide-requires-2
 wide-requires-2 c κs = search needs
 
-add-wide-3 : tie.Need-add-wide-3
-add-wide-3 c = search needs
+add-wide-2 : tie.Need-add-wide-2
+add-wide-2 c = search needs
 
 shared-slice-read-wide-3 : tie.Need-shared-slice-read-wide-3
 shared-slice-read-wide-3 c = search needs
@@ -31,17 +28,17 @@ shared-slice-read-wide-3 c = search needs
 wide-requires-3 : tie.Need-wide-requires-3
 wide-requires-3 c κs = search needs
 
-add-t16 : tie.Need-add-t16
-add-t16 c = search needs
+add-t15 : tie.Need-add-t15
+add-t15 c = search needs
 
-shared-slice-read-t18 : tie.Need-shared-slice-read-t18
-shared-slice-read-t18 c = search needs
+shared-slice-read-t17 : tie.Need-shared-slice-read-t17
+shared-slice-read-t17 c = search needs
 
-add-t19 : tie.Need-add-t19
-add-t19 c = search needs
+add-t18 : tie.Need-add-t18
+add-t18 c = search needs
 
-shared-slice-read-t21 : tie.Need-shared-slice-read-t21
-shared-slice-read-t21 c = search needs
+shared-slice-read-t20 : tie.Need-shared-slice-read-t20
+shared-slice-read-t20 c = search needs
 
 add-new : tie.Need-add-new
 add-new c = search needs
@@ -59,19 +56,18 @@ pub head-at-spec : {M : Type 1} → statement M
 head-at-spec =
     tie.close
     (tie.spec
-    add-wide
     shared-slice-read-wide
     wide-requires
-    add-wide-2
+    add-wide
     shared-slice-read-wide-2
     wide-requires-2
-    add-wide-3
+    add-wide-2
     shared-slice-read-wide-3
     wide-requires-3
-    add-t16
-    shared-slice-read-t18
-    add-t19
-    shared-slice-read-t21
+    add-t15
+    shared-slice-read-t17
+    add-t18
+    shared-slice-read-t20
     add-new
     shared-slice-read-new
     new-requires

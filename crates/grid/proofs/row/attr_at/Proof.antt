@@ -1,6 +1,6 @@
 -- `grid::row::attr_at` meets its contract. Assumes nothing.
 use borrow.Author.Needs.{needs}
-use Rattle.grid.proofs.Rows.{attr-read}
+use Rattle.grid.proofs.RowLaws.{attr-read}
 use Rattle.grid.proofs.row.attr_at.Statement.{statement}
 use Rattle.grid.proofs.row.attr_at.Tie as tie
 

@@ -2,7 +2,7 @@
 use native.Mathlib.Omega.{arith}
 use lib.ListN.{length-set}
 use borrow.Author.Needs.{needs}
-use Rattle.grid.proofs.Rows.{blanked}
+use Rattle.grid.proofs.RowLaws.{blanked}
 use Rattle.grid.proofs.row.blank_row.Statement.{statement}
 use Rattle.grid.proofs.row.blank_row.Tie as tie
 

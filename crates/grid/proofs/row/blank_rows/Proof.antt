@@ -3,7 +3,7 @@ use Prim.Native.Nat.{_-_, _≤_}
 use borrow.Author.Needs.{needs}
 use Rattle.grid.specs.Screen.{blankRow}
 use Rattle.grid.specs.Record.{Becomes}
-use Rattle.grid.proofs.Scrolled.{blankTo, blank-start, blank-turn, blank-end}
+use Rattle.grid.proofs.RowScroll.{blankTo, blank-start, blank-turn, blank-end}
 use Rattle.grid.proofs.row.blank_rows.Statement.{statement}
 use Rattle.grid.proofs.row.blank_rows.Tie as tie
 

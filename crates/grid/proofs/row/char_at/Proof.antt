@@ -1,6 +1,6 @@
 -- `grid::row::char_at` meets its contract. Assumes nothing.
 use borrow.Author.Needs.{needs}
-use Rattle.grid.proofs.Rows.{char-read}
+use Rattle.grid.proofs.RowLaws.{char-read}
 use Rattle.grid.proofs.row.char_at.Statement.{statement}
 use Rattle.grid.proofs.row.char_at.Tie as tie
 

@@ -1,6 +1,6 @@
 -- `grid::row::copy_attrs` meets its contract. Assumes nothing.
 use borrow.Author.Needs.{needs}
-use Rattle.grid.proofs.Rows.{attrs-window}
+use Rattle.grid.proofs.RowLaws.{attrs-window}
 use Rattle.grid.proofs.row.copy_attrs.Statement.{statement}
 use Rattle.grid.proofs.row.copy_attrs.Tie as tie
 

@@ -2,7 +2,7 @@
 use native.Mathlib.Omega.{arith}
 use lib.ListN.{length-set}
 use borrow.Author.Needs.{needs}
-use Rattle.grid.proofs.Rows.{lined}
+use Rattle.grid.proofs.RowLaws.{lined}
 use Rattle.grid.proofs.row.line_row.Statement.{statement}
 use Rattle.grid.proofs.row.line_row.Tie as tie
 

@@ -2,7 +2,7 @@
 use native.Mathlib.Omega.{arith}
 use lib.ListN.{length-set}
 use borrow.Author.Needs.{needs}
-use Rattle.grid.proofs.Rows.{celled}
+use Rattle.grid.proofs.RowLaws.{celled}
 use Rattle.grid.proofs.row.put_cell.Statement.{statement}
 use Rattle.grid.proofs.row.put_cell.Tie as tie
 

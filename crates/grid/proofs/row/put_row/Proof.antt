@@ -2,7 +2,7 @@
 use native.Mathlib.Omega.{arith}
 use lib.ListN.{length-set}
 use borrow.Author.Needs.{needs}
-use Rattle.grid.proofs.Rows.{row-put}
+use Rattle.grid.proofs.RowLaws.{row-put}
 use Rattle.grid.proofs.row.put_row.Statement.{statement}
 use Rattle.grid.proofs.row.put_row.Tie as tie
 

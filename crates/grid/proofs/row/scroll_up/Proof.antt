@@ -1,6 +1,6 @@
 -- `grid::row::scroll_up` meets its contract. Assumes nothing.
 use borrow.Author.Needs.{needs}
-use Rattle.grid.proofs.Scrolled.{scroll-end}
+use Rattle.grid.proofs.RowScroll.{scroll-end}
 use Rattle.grid.proofs.row.scroll_up.Statement.{statement}
 use Rattle.grid.proofs.row.scroll_up.Tie as tie
 

@@ -2,7 +2,7 @@
 use native.Mathlib.Omega.{arith}
 use lib.ListN.{length-set}
 use borrow.Author.Needs.{needs}
-use Rattle.grid.proofs.Rows.{flag-set}
+use Rattle.grid.proofs.RowLaws.{flag-set}
 use Rattle.grid.proofs.row.set_flag.Statement.{statement}
 use Rattle.grid.proofs.row.set_flag.Tie as tie
 

@@ -3,7 +3,7 @@ use mathlib.Core.Path.{_≡_}
 use Prim.Native.Nat.{_-_, _≤_}
 use native.Mathlib.Omega.{arith}
 use borrow.Author.Needs.{needs}
-use Rattle.grid.proofs.Masks.{changedTo, changed-start, changed-lt, changed-turn, changed-end}
+use Rattle.grid.proofs.TouchedLaws.{changedTo, changed-start, changed-lt, changed-turn, changed-end}
 use Rattle.grid.proofs.touched.changed_rows.Statement.{statement}
 use Rattle.grid.proofs.touched.changed_rows.Tie as tie
 

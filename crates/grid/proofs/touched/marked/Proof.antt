@@ -1,6 +1,6 @@
 -- `grid::touched::marked` meets its contract. Assumes nothing.
 use borrow.Author.Needs.{needs}
-use Rattle.grid.proofs.Masks.{row-marked, row-kept}
+use Rattle.grid.proofs.TouchedLaws.{row-marked, row-kept}
 use Rattle.grid.proofs.touched.marked.Statement.{statement}
 use Rattle.grid.proofs.touched.marked.Tie as tie
 

@@ -3,9 +3,10 @@ use mathlib.Core.Path.{_≡_}
 use Prim.Native.Nat.{_-_, _≤_}
 use lib.Dec.{eqb}
 use borrow.Author.Needs.{needs}
-use Rattle.grid.specs.Screen.{at, same}
-use Rattle.grid.specs.Record.{window}
-use Rattle.grid.proofs.Steps.{same-start, same-turn, same-end}
+use Rattle.values.specs.Cursor.{at}
+use Rattle.grid.specs.Screen.{same}
+use Rattle.bytes.specs.Part.{window}
+use Rattle.grid.proofs.TouchedLaws.{same-start, same-turn, same-end}
 use Rattle.grid.proofs.touched.part_same.Statement.{statement}
 use Rattle.grid.proofs.touched.part_same.Tie as tie
 

@@ -1,6 +1,6 @@
 -- `grid::touched::row_same` meets its contract. Assumes nothing.
 use borrow.Author.Needs.{needs}
-use Rattle.grid.proofs.Steps.{flags-differ, chars-differ, same-row-end}
+use Rattle.grid.proofs.TouchedLaws.{flags-differ, chars-differ, same-row-end}
 use Rattle.grid.proofs.touched.row_same.Statement.{statement}
 use Rattle.grid.proofs.touched.row_same.Tie as tie
 

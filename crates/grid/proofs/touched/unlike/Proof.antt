@@ -2,8 +2,8 @@
 use mathlib.Core.Path.{refl}
 use native.Mathlib.Omega.{arith}
 use borrow.Author.Tests.{eq-eqb, ne-eqb}
-use Rattle.grid.specs.Moves.{left}
-use Rattle.grid.specs.Choice.{if_then_else_}
+use Rattle.values.specs.Cursor.{left}
+use Rattle.bytes.specs.Choice.{if_then_else_}
 use Rattle.grid.proofs.touched.unlike.Statement.{statement}
 use Rattle.grid.proofs.touched.unlike.Tie as tie
 

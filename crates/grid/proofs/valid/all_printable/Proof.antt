@@ -3,9 +3,11 @@ use mathlib.Core.Path.{_≡_}
 use Prim.Native.Nat.{_-_, _≤_}
 use lib.Dec.{eqb}
 use borrow.Author.Needs.{needs}
-use Rattle.grid.specs.Screen.{at, every, printable}
-use Rattle.grid.specs.Record.{window}
-use Rattle.grid.proofs.Steps.{count-start, count-more, count-end}
+use Rattle.values.specs.Cursor.{at}
+use Rattle.bytes.specs.Test.{every}
+use Rattle.grid.specs.Screen.{printable}
+use Rattle.bytes.specs.Part.{window}
+use Rattle.bytes.proofs.ZeroLaws.{count-start, count-more, count-end}
 use Rattle.grid.proofs.valid.all_printable.Statement.{statement}
 use Rattle.grid.proofs.valid.all_printable.Tie as tie
 

@@ -1,6 +1,6 @@
 -- `grid::valid::attr_ok` meets its contract. Assumes nothing.
 use borrow.Author.Needs.{needs}
-use Rattle.grid.proofs.Steps.{attr-found, attr-end}
+use Rattle.grid.proofs.ValidLaws.{attr-found, attr-end}
 use Rattle.grid.proofs.valid.attr_ok.Statement.{statement}
 use Rattle.grid.proofs.valid.attr_ok.Tie as tie
 

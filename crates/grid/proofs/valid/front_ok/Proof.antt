@@ -1,6 +1,6 @@
 -- `grid::valid::front_ok` meets its contract. Assumes nothing.
 use borrow.Author.Needs.{needs}
-use Rattle.grid.proofs.Steps.{front-0, front-1, front-2, front-end}
+use Rattle.grid.proofs.ValidLaws.{front-0, front-1, front-2, front-end}
 use Rattle.grid.proofs.valid.front_ok.Statement.{statement}
 use Rattle.grid.proofs.valid.front_ok.Tie as tie
 

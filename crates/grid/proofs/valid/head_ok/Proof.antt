@@ -1,6 +1,6 @@
 -- `grid::valid::head_ok` meets its contract. Assumes nothing.
 use borrow.Author.Needs.{needs}
-use Rattle.grid.proofs.Steps.{width-found, insert-found, keys-found, cursor-found, column-found, head-end}
+use Rattle.grid.proofs.ValidLaws.{width-found, insert-found, keys-found, cursor-found, column-found, head-end}
 use Rattle.grid.proofs.valid.head_ok.Statement.{statement}
 use Rattle.grid.proofs.valid.head_ok.Tie as tie
 

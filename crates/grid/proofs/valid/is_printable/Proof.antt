@@ -1,6 +1,6 @@
 -- `grid::valid::is_printable` meets its contract. Assumes nothing.
 use borrow.Author.Tests.{eq-eqb, ne-eqb}
-use Rattle.grid.specs.Moves.{left}
+use Rattle.values.specs.Cursor.{left}
 use Rattle.grid.specs.Screen.{printable}
 use Rattle.grid.proofs.valid.is_printable.Statement.{statement}
 use Rattle.grid.proofs.valid.is_printable.Tie as tie

@@ -1,6 +1,6 @@
 -- `grid::valid::narrow_row_ok` meets its contract. Assumes nothing.
 use borrow.Author.Needs.{needs}
-use Rattle.grid.proofs.Steps.{narrow-flag, narrow-end}
+use Rattle.grid.proofs.ValidLaws.{narrow-flag, narrow-end}
 use Rattle.grid.proofs.valid.narrow_row_ok.Statement.{statement}
 use Rattle.grid.proofs.valid.narrow_row_ok.Tie as tie
 

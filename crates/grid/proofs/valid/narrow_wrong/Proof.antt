@@ -3,7 +3,7 @@ use mathlib.Core.Path.{_≡_}
 use Prim.Native.Nat.{_-_, _*_, _≤_}
 use lib.Dec.{eqb}
 use borrow.Author.Needs.{needs}
-use Rattle.grid.proofs.Steps.{cleanTo, clean-start, clean-turn, clean-end}
+use Rattle.grid.proofs.ValidLaws.{cleanTo, clean-start, clean-turn, clean-end}
 use Rattle.grid.proofs.valid.narrow_wrong.Statement.{statement}
 use Rattle.grid.proofs.valid.narrow_wrong.Tie as tie
 

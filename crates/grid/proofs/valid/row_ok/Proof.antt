@@ -1,6 +1,6 @@
 -- `grid::valid::row_ok` meets its contract. Assumes nothing.
 use borrow.Author.Needs.{needs}
-use Rattle.grid.proofs.Steps.{row-of-80, row-of-40}
+use Rattle.grid.proofs.ValidLaws.{row-of-80, row-of-40}
 use Rattle.grid.proofs.valid.row_ok.Statement.{statement}
 use Rattle.grid.proofs.valid.row_ok.Tie as tie
 

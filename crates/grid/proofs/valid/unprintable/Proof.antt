@@ -2,9 +2,9 @@
 use mathlib.Core.Path.{refl}
 use native.Mathlib.Omega.{arith}
 use borrow.Author.Tests.{le-leb, lt-leb, eq-eqb, ne-eqb}
-use Rattle.grid.specs.Moves.{left}
+use Rattle.values.specs.Cursor.{left}
 use Rattle.grid.specs.Screen.{printable}
-use Rattle.grid.specs.Choice.{if_then_else_}
+use Rattle.bytes.specs.Choice.{if_then_else_}
 use Rattle.grid.proofs.valid.unprintable.Statement.{statement}
 use Rattle.grid.proofs.valid.unprintable.Tie as tie
 

@@ -4,9 +4,10 @@ use mathlib.Core.Bool.{true}
 use Prim.Native.Nat.{_-_, _≤_}
 use lib.ListN.{take}
 use borrow.Author.Needs.{needs}
-use Rattle.grid.specs.Screen.{every, validRow}
+use Rattle.bytes.specs.Test.{every}
+use Rattle.grid.specs.Screen.{validRow}
 use Rattle.grid.specs.Record.{rowsOf}
-use Rattle.grid.proofs.Steps.{widths-known, length-found, front-found, head-found, row-found, rows-start, rows-turn, valid-end}
+use Rattle.grid.proofs.ValidLaws.{widths-known, length-found, front-found, head-found, row-found, rows-start, rows-turn, valid-end}
 use Rattle.grid.proofs.valid.valid.Statement.{statement}
 use Rattle.grid.proofs.valid.valid.Tie as tie
 

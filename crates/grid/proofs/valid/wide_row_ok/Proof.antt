@@ -1,6 +1,6 @@
 -- `grid::valid::wide_row_ok` meets its contract. Assumes nothing.
 use borrow.Author.Needs.{needs}
-use Rattle.grid.proofs.Steps.{wide-flag, wide-end}
+use Rattle.grid.proofs.ValidLaws.{wide-flag, wide-end}
 use Rattle.grid.proofs.valid.wide_row_ok.Statement.{statement}
 use Rattle.grid.proofs.valid.wide_row_ok.Tie as tie
 

@@ -1,7 +1,7 @@
 -- `keys::strip::digit` meets its contract. Assumes nothing.
 use borrow.Author.Needs.{needs}
 use Rattle.keys.specs.Keys.{digit}
-use Rattle.grid.proofs.Bools.{choice}
+use Rattle.bytes.proofs.Bools.{choice}
 use Rattle.keys.proofs.strip.digit.Statement.{statement}
 use Rattle.keys.proofs.strip.digit.Tie as tie
 

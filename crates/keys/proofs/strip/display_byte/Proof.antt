@@ -1,7 +1,7 @@
 -- `keys::strip::display_byte` meets its contract. Assumes nothing.
 use mathlib.Core.Logic.{⊎-elim}
 use borrow.Author.Needs.{needs}
-use Rattle.keys.proofs.Slots.{display-13, display-10, display-low, display-127, display-same}
+use Rattle.keys.proofs.StripLaws.{display-13, display-10, display-low, display-127, display-same}
 use Rattle.keys.proofs.strip.display_byte.Statement.{statement}
 use Rattle.keys.proofs.strip.display_byte.Tie as tie
 

@@ -4,9 +4,8 @@ use Prim.Native.Nat.{_-_, _≤_}
 use lib.ListN.{length}
 use borrow.Author.Needs.{needs}
 use Rattle.keys.specs.Keys.{displayed}
-use Rattle.keys.proofs.Slots.{display-start, display-turn, display-end}
-use Rattle.grid.specs.Screen.{at}
-use Rattle.grid.specs.Record.{write}
+use Rattle.keys.proofs.StripLaws.{display-start, display-turn, display-end}
+use Rattle.bytes.specs.Part.{write}
 use Rattle.keys.proofs.strip.put_display.Statement.{statement}
 use Rattle.keys.proofs.strip.put_display.Tie as tie
 

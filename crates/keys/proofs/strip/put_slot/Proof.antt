@@ -3,7 +3,7 @@ use native.Mathlib.Omega.{arith}
 use lib.ListN.{length-set}
 use borrow.Author.Needs.{needs}
 use Rattle.keys.specs.Keys.{digit}
-use Rattle.keys.proofs.Slots.{slot-end}
+use Rattle.keys.proofs.StripLaws.{slot-end}
 use Rattle.keys.proofs.strip.put_slot.Statement.{statement}
 use Rattle.keys.proofs.strip.put_slot.Tie as tie
 

@@ -4,8 +4,8 @@ use Prim.Native.Nat.{_-_, _≤_}
 use lib.ListN.{length}
 use borrow.Author.Needs.{needs}
 use Rattle.keys.specs.Keys.{slotsFrom}
-use Rattle.keys.proofs.Slots.{strip-start, strip-turn, strip-end}
-use Rattle.grid.specs.Record.{write}
+use Rattle.keys.proofs.StripLaws.{strip-start, strip-turn, strip-end}
+use Rattle.bytes.specs.Part.{write}
 use Rattle.keys.proofs.strip.strip.Statement.{statement}
 use Rattle.keys.proofs.strip.strip.Tie as tie
 

@@ -1,6 +1,6 @@
 -- `keys::table::key_ok` meets its contract. Assumes nothing.
 use borrow.Author.Needs.{needs}
-use Rattle.keys.proofs.Tables.{key-long, key-rest}
+use Rattle.keys.proofs.TableLaws.{key-long, key-rest}
 use Rattle.keys.proofs.table.key_ok.Statement.{statement}
 use Rattle.keys.proofs.table.key_ok.Tie as tie
 

@@ -4,7 +4,7 @@ use Prim.Native.Nat.{_-_, _≤_}
 use lib.ListN.{length}
 use borrow.Author.Needs.{needs}
 use Rattle.keys.specs.Keys.{lengthAt}
-use Rattle.keys.proofs.Tables.{filledTo, filled-start, filled-turn, lengths-end}
+use Rattle.keys.proofs.TableLaws.{filledTo, filled-start, filled-turn, lengths-end}
 use Rattle.keys.proofs.table.lengths_of.Statement.{statement}
 use Rattle.keys.proofs.table.lengths_of.Tie as tie
 

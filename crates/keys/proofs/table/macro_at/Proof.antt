@@ -1,6 +1,6 @@
 -- `keys::table::macro_at` meets its contract. Assumes nothing.
 use borrow.Author.Needs.{needs}
-use Rattle.keys.proofs.Tables.{macro-read}
+use Rattle.keys.proofs.TableLaws.{macro-read}
 use Rattle.keys.proofs.table.macro_at.Statement.{statement}
 use Rattle.keys.proofs.table.macro_at.Tie as tie
 

@@ -5,8 +5,8 @@ use Prim.Native.Nat.{_-_, _≤_}
 use lib.ListN.{take}
 use borrow.Author.Needs.{needs}
 use Rattle.keys.specs.Keys.{validKey, tenKeys}
-use Rattle.keys.proofs.Tables.{length-found, key-found, keys-start, keys-turn, table-end}
-use Rattle.grid.specs.Screen.{every}
+use Rattle.keys.proofs.TableLaws.{length-found, key-found, keys-start, keys-turn, table-end}
+use Rattle.bytes.specs.Test.{every}
 use Rattle.keys.proofs.table.table_ok.Statement.{statement}
 use Rattle.keys.proofs.table.table_ok.Tie as tie
 

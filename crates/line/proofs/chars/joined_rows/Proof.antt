@@ -5,8 +5,8 @@ use lib.ListN.{length, replicate}
 use borrow.Author.Needs.{needs}
 use Rattle.line.specs.Line.{MAX-LOGICAL}
 use Rattle.line.specs.Text.{lineFrom}
-use Rattle.line.proofs.Joined.{chars-turn, chars-end, next-index, next-row, chars-start, index-start}
-use Rattle.grid.specs.Record.{write}
+use Rattle.line.proofs.CharsLaws.{chars-turn, chars-end, next-index, next-row, chars-start, index-start}
+use Rattle.bytes.specs.Part.{write}
 use Rattle.line.proofs.chars.joined_rows.Statement.{statement}
 use Rattle.line.proofs.chars.joined_rows.Tie as tie
 

@@ -1,7 +1,7 @@
 -- `line::content::column_on` meets its contract. Assumes nothing.
 use borrow.Author.Needs.{needs}
 use Rattle.line.specs.Text.{columnOn}
-use Rattle.grid.proofs.Bools.{choice}
+use Rattle.bytes.proofs.Bools.{choice}
 use Rattle.line.proofs.content.column_on.Statement.{statement}
 use Rattle.line.proofs.content.column_on.Tie as tie
 

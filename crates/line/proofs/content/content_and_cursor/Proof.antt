@@ -1,6 +1,6 @@
 -- `line::content::content_and_cursor` meets its contract. Assumes nothing.
 use borrow.Author.Needs.{needs}
-use Rattle.line.proofs.Contents.{span-fits, row-fits, index-fits, last-fits, content-fits, content-end}
+use Rattle.line.proofs.ContentLaws.{span-fits, row-fits, index-fits, last-fits, content-fits, content-end}
 use Rattle.line.proofs.content.content_and_cursor.Statement.{statement}
 use Rattle.line.proofs.content.content_and_cursor.Tie as tie
 

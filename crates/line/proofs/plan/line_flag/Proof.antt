@@ -1,7 +1,7 @@
 -- `line::plan::line_flag` meets its contract. Assumes nothing.
 use borrow.Author.Needs.{needs}
 use Rattle.line.specs.Plan.{lineFlag}
-use Rattle.grid.proofs.Bools.{choice}
+use Rattle.bytes.proofs.Bools.{choice}
 use Rattle.line.proofs.plan.line_flag.Statement.{statement}
 use Rattle.line.proofs.plan.line_flag.Tie as tie
 

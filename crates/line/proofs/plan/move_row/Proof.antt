@@ -1,6 +1,6 @@
 -- `line::plan::move_row` meets its contract. Assumes nothing.
 use borrow.Author.Needs.{needs}
-use Rattle.line.proofs.Plans.{row-kept}
+use Rattle.line.proofs.PlanLaws.{row-kept}
 use Rattle.line.proofs.plan.move_row.Statement.{statement}
 use Rattle.line.proofs.plan.move_row.Tie as tie
 

@@ -1,6 +1,6 @@
 -- `line::plan::plan_of` meets its contract. Assumes nothing.
 use borrow.Author.Needs.{needs}
-use Rattle.line.proofs.Plans.{plan-made}
+use Rattle.line.proofs.PlanLaws.{plan-made}
 use Rattle.line.proofs.plan.plan_of.Statement.{statement}
 use Rattle.line.proofs.plan.plan_of.Tie as tie
 

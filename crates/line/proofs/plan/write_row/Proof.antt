@@ -1,6 +1,6 @@
 -- `line::plan::write_row` meets its contract. Assumes nothing.
 use borrow.Author.Needs.{needs}
-use Rattle.line.proofs.Plans.{above-moved, below-moved, blank-put, line-put, line-fits}
+use Rattle.line.proofs.PlanLaws.{above-moved, below-moved, blank-put, line-put, line-fits}
 use Rattle.line.proofs.plan.write_row.Statement.{statement}
 use Rattle.line.proofs.plan.write_row.Tie as tie
 

@@ -3,7 +3,7 @@ use Prim.Native.Nat.{_-_, _≤_}
 use lib.ListN.{take}
 use borrow.Author.Needs.{needs}
 use Rattle.line.specs.Splice.{lineRows}
-use Rattle.line.proofs.Plans.{rowsTo, rows-start, row-still, rows-turn, rows-end}
+use Rattle.line.proofs.PlanLaws.{rowsTo, rows-start, row-still, rows-turn, rows-end}
 use Rattle.grid.specs.Screen.{blankRow}
 use Rattle.grid.specs.Record.{rowsOf, Becomes}
 use Rattle.line.proofs.plan.write_rows.Statement.{statement}

@@ -1,6 +1,6 @@
 -- `line::reading::read_stripped` meets its contract. Assumes nothing.
 use borrow.Author.Needs.{needs}
-use Rattle.line.proofs.Readings.{whole-fits, text-fits, reading-fits, reading-end}
+use Rattle.line.proofs.ReadingLaws.{whole-fits, text-fits, reading-fits, reading-end}
 use Rattle.line.proofs.reading.read_stripped.Statement.{statement}
 use Rattle.line.proofs.reading.read_stripped.Tie as tie
 

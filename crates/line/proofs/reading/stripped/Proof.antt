@@ -3,7 +3,7 @@ use mathlib.Core.Path.{_≡_}
 use Prim.Native.Nat.{_≤_}
 use lib.ListN.{length, take}
 use borrow.Author.Needs.{needs}
-use Rattle.line.proofs.Readings.{strip-turn, strip-stop, strip-end}
+use Rattle.line.proofs.ReadingLaws.{strip-turn, strip-stop, strip-end}
 use Rattle.grid.specs.Screen.{trim}
 use Rattle.line.proofs.reading.stripped.Statement.{statement}
 use Rattle.line.proofs.reading.stripped.Tie as tie

@@ -1,6 +1,6 @@
 -- `line::span::span_at` meets its contract. Assumes nothing.
 use borrow.Author.Needs.{needs}
-use Rattle.line.proofs.Spans.{span-made}
+use Rattle.line.proofs.SpanLaws.{span-made}
 use Rattle.line.proofs.span.span_at.Statement.{statement}
 use Rattle.line.proofs.span.span_at.Tie as tie
 

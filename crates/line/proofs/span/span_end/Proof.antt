@@ -3,7 +3,7 @@ use mathlib.Core.Path.{_≡_}
 use Prim.Native.Nat.{_-_, _≤_, _<_}
 use borrow.Author.Needs.{needs}
 use Rattle.line.specs.Line.{spanEnd}
-use Rattle.line.proofs.Spans.{end-turn, end-stop, end-end}
+use Rattle.line.proofs.SpanLaws.{end-turn, end-stop, end-end}
 use Rattle.grid.specs.Record.{rowsOf}
 use Rattle.line.proofs.span.span_end.Statement.{statement}
 use Rattle.line.proofs.span.span_end.Tie as tie

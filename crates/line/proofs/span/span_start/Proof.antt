@@ -3,7 +3,7 @@ use mathlib.Core.Path.{_≡_}
 use Prim.Native.Nat.{_≤_}
 use borrow.Author.Needs.{needs}
 use Rattle.line.specs.Line.{spanStart}
-use Rattle.line.proofs.Spans.{start-turn, start-stop, start-end}
+use Rattle.line.proofs.SpanLaws.{start-turn, start-stop, start-end}
 use Rattle.grid.specs.Record.{rowsOf}
 use Rattle.line.proofs.span.span_start.Statement.{statement}
 use Rattle.line.proofs.span.span_start.Tie as tie

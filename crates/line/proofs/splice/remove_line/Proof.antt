@@ -1,6 +1,6 @@
 -- `line::splice::remove_line` meets its contract. Assumes nothing.
 use borrow.Author.Needs.{needs}
-use Rattle.line.proofs.Spliced.{removed-laid, line-removed}
+use Rattle.line.proofs.SpliceLaws.{removed-laid, line-removed}
 use Rattle.line.proofs.splice.remove_line.Statement.{statement}
 use Rattle.line.proofs.splice.remove_line.Tie as tie
 
@@ -16,6 +16,9 @@ write-rows-requires c κs = (search needs, search needs, search needs, search (n
 new-requires : tie.Need-new-requires
 new-requires c κs = search needs
 
+with-cursor-requires : tie.Need-with-cursor-requires
+with-cursor-requires c κs = search needs
+
 same-length : tie.Need-same-length
 same-length c = search needs
 
@@ -30,5 +33,6 @@ remove-line-spec =
     plan-of-requires
     write-rows-requires
     new-requires
+    with-cursor-requires
     same-length
     returns)

@@ -1,6 +1,6 @@
 -- `line::splice::rows_for` meets its contract. Assumes nothing.
 use borrow.Author.Needs.{needs}
-use Rattle.line.proofs.Counts.{count-none, count-fits, count-inside, count-part, count-full}
+use Rattle.line.proofs.SpliceCounts.{count-none, count-fits, count-inside, count-part, count-full}
 use Rattle.line.proofs.splice.rows_for.Statement.{statement}
 use Rattle.line.proofs.splice.rows_for.Tie as tie
 

@@ -1,6 +1,6 @@
 -- `line::splice::splice_logical` meets its contract. Assumes nothing.
 use borrow.Author.Needs.{needs}
-use Rattle.line.proofs.Spliced.{splice-laid, cursor-fits, spliced-end}
+use Rattle.line.proofs.SpliceLaws.{splice-laid, spliced-done}
 use Rattle.line.proofs.splice.splice_logical.Statement.{statement}
 use Rattle.line.proofs.splice.splice_logical.Tie as tie
 
@@ -19,23 +19,14 @@ slice-aggregate-write-rows c = search needs
 write-rows-requires : tie.Need-write-rows-requires
 write-rows-requires c κs = (search needs, search needs, search needs, search (needs, splice-laid), search needs, search needs)
 
-div-new : tie.Need-div-new
-div-new c = search needs
-
-add-new : tie.Need-add-new
-add-new c = search (needs, cursor-fits)
-
-rem-new : tie.Need-rem-new
-rem-new c = search needs
-
-new-requires : tie.Need-new-requires
-new-requires c κs = search needs
+head-in-requires : tie.Need-head-in-requires
+head-in-requires c κs = (search needs, search (needs, splice-laid), search needs)
 
 same-length : tie.Need-same-length
 same-length c = search needs
 
 returns : tie.Need-returns
-returns c = search (needs, spliced-end)
+returns c = let start = c .before .before .before .before .before .before .before .before .before .before .before .before .before .pre in search (needs, spliced-done, start .0, start .1, start .2)
 
 pub splice-logical-spec : {M : Type 1} → statement M
 splice-logical-spec =
@@ -46,9 +37,6 @@ splice-logical-spec =
     plan-of-requires
     slice-aggregate-write-rows
     write-rows-requires
-    div-new
-    add-new
-    rem-new
-    new-requires
+    head-in-requires
     same-length
     returns)

@@ -1,6 +1,6 @@
 -- `mirror::arrive::apply` meets its contract. Assumes nothing.
 use borrow.Author.Needs.{needs}
-use Rattle.mirror.proofs.Leaving.{apply-done}
+use Rattle.mirror.proofs.ArriveLeft.{apply-done}
 use Rattle.mirror.proofs.arrive.apply.Statement.{statement}
 use Rattle.mirror.proofs.arrive.apply.Tie as tie
 

@@ -1,38 +1,20 @@
 -- `mirror::arrive::due` meets its contract. Assumes nothing.
 use borrow.Author.Needs.{needs}
-use Rattle.mirror.proofs.Judging.{due-full, due-old, due-step}
+use Rattle.mirror.proofs.ArriveJudged.{due-read}
 use Rattle.mirror.proofs.arrive.due.Statement.{statement}
 use Rattle.mirror.proofs.arrive.due.Tie as tie
+
+read-front-requires : tie.Need-read-front-requires
+read-front-requires c κs = search needs
 
 shown-serial-requires : tie.Need-shown-serial-requires
 shown-serial-requires c κs = search needs
 
-four-at-requires : tie.Need-four-at-requires
-four-at-requires c κs = search needs
-
-shared-slice-read-if1 : tie.Need-shared-slice-read-if1
-shared-slice-read-if1 c = search needs
+due-at-requires : tie.Need-due-at-requires
+due-at-requires c κs = search needs
 
 returns : tie.Need-returns
-returns c = search (needs, due-full)
-
-returns-2 : tie.Need-returns-2
-returns-2 c = search (needs, due-old)
-
-sub-result : tie.Need-sub-result
-sub-result c = search needs
-
-returns-3 : tie.Need-returns-3
-returns-3 c = search (needs, due-step)
+returns c = search (needs, due-read)
 
 pub due-spec : {M : Type 1} → statement M
-due-spec =
-    tie.close
-    (tie.spec
-    shown-serial-requires
-    four-at-requires
-    shared-slice-read-if1
-    returns
-    returns-2
-    sub-result
-    returns-3)
+due-spec = tie.close (tie.spec read-front-requires shown-serial-requires due-at-requires returns)

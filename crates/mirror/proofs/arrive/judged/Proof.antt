@@ -1,6 +1,6 @@
 -- `mirror::arrive::judged` meets its contract. Assumes nothing.
 use borrow.Author.Needs.{needs}
-use Rattle.mirror.proofs.Judging.{judged-size, judged-mirror, judged-report, judged-noted, judged-width, judged-applied, ready-known}
+use Rattle.mirror.proofs.ArriveJudged.{judged-size, ready-known, judged-mirror, judged-report, judged-noted, judged-width, judged-applied}
 use Rattle.mirror.proofs.arrive.judged.Statement.{statement}
 use Rattle.mirror.proofs.arrive.judged.Tie as tie
 

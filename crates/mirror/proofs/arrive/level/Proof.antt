@@ -1,6 +1,6 @@
 -- `mirror::arrive::level` meets its contract. Assumes nothing.
 use borrow.Author.Needs.{needs}
-use Rattle.mirror.proofs.Judging.{level-yes, level-no}
+use Rattle.mirror.proofs.ArriveJudged.{level-yes, level-no}
 use Rattle.mirror.proofs.arrive.level.Statement.{statement}
 use Rattle.mirror.proofs.arrive.level.Tie as tie
 

@@ -1,6 +1,6 @@
 -- `mirror::arrive::mirror_arrive` meets its contract. Assumes nothing.
 use borrow.Author.Needs.{needs}
-use Rattle.mirror.proofs.Leaving.{refusal-fits, ready-noted, ready-applied, arrive-refused, arrive-noted, arrive-applied}
+use Rattle.mirror.proofs.ArriveLeft.{refusal-fits, ready-noted, ready-applied, arrive-refused, arrive-noted, arrive-applied}
 use Rattle.mirror.proofs.arrive.mirror_arrive.Statement.{statement}
 use Rattle.mirror.proofs.arrive.mirror_arrive.Tie as tie
 

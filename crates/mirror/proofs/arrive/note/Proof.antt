@@ -1,7 +1,7 @@
 -- `mirror::arrive::note` meets its contract. Assumes nothing.
 use borrow.Author.Needs.{needs}
-use Rattle.mirror.proofs.Leaving.{all-bytes, note-done}
 use denote.Ref.{now}
+use Rattle.mirror.proofs.ArriveLeft.{all-bytes, note-done}
 use Rattle.mirror.proofs.arrive.note.Statement.{statement}
 use Rattle.mirror.proofs.arrive.note.Tie as tie
 

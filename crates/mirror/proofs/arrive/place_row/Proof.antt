@@ -1,6 +1,6 @@
 -- `mirror::arrive::place_row` meets its contract. Assumes nothing.
 use borrow.Author.Needs.{needs}
-use Rattle.mirror.proofs.Taking.{row-placed}
+use Rattle.mirror.proofs.ArriveRows.{row-placed}
 use Rattle.mirror.proofs.arrive.place_row.Statement.{statement}
 use Rattle.mirror.proofs.arrive.place_row.Tie as tie
 

@@ -1,20 +1,14 @@
 -- `mirror::arrive::show` meets its contract. Assumes nothing.
 use borrow.Author.Needs.{needs}
-use Rattle.mirror.proofs.Taking.{rows-known, front-known, show-done}
+use Rattle.mirror.proofs.ArriveRows.{rows-known, front-known, show-done}
 use Rattle.mirror.proofs.arrive.show.Statement.{statement}
 use Rattle.mirror.proofs.arrive.show.Tie as tie
 
-sub-head-at : tie.Need-sub-head-at
-sub-head-at c = search needs
+read-front-requires : tie.Need-read-front-requires
+read-front-requires c κs = search needs
 
-head-at-requires : tie.Need-head-at-requires
-head-at-requires c κs = search needs
-
-four-at-requires : tie.Need-four-at-requires
-four-at-requires c κs = search needs
-
-four-at-requires-2 : tie.Need-four-at-requires-2
-four-at-requires-2 c κs = search needs
+rows-at-requires : tie.Need-rows-at-requires
+rows-at-requires c κs = search needs
 
 take-rows-requires : tie.Need-take-rows-requires
 take-rows-requires c κs = (search needs, search (needs, rows-known))
@@ -32,10 +26,8 @@ pub show-spec : {M : Type 1} → statement M
 show-spec =
     tie.close
     (tie.spec
-    sub-head-at
-    head-at-requires
-    four-at-requires
-    four-at-requires-2
+    read-front-requires
+    rows-at-requires
     take-rows-requires
     write-front-requires
     same-length

@@ -1,6 +1,6 @@
 -- `mirror::arrive::shown_serial` meets its contract. Assumes nothing.
 use borrow.Author.Needs.{needs}
-use Rattle.mirror.proofs.Judging.{serial-read}
+use Rattle.mirror.proofs.ArriveJudged.{serial-read}
 use Rattle.mirror.proofs.arrive.shown_serial.Statement.{statement}
 use Rattle.mirror.proofs.arrive.shown_serial.Tie as tie
 

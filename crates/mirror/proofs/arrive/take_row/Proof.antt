@@ -1,6 +1,6 @@
 -- `mirror::arrive::take_row` meets its contract. Assumes nothing.
 use borrow.Author.Needs.{needs}
-use Rattle.mirror.proofs.Taking.{room-has, take-skip, take-put}
+use Rattle.mirror.proofs.ArriveRows.{room-has, take-skip, take-put}
 use Rattle.mirror.proofs.arrive.take_row.Statement.{statement}
 use Rattle.mirror.proofs.arrive.take_row.Tie as tie
 
@@ -11,7 +11,7 @@ returns : tie.Need-returns
 returns c = search (needs, take-skip)
 
 place-row-requires : tie.Need-place-row-requires
-place-row-requires c κs = (search needs, search needs, search (needs, room-has))
+place-row-requires c κs = search (needs, room-has)
 
 same-length : tie.Need-same-length
 same-length c = search needs

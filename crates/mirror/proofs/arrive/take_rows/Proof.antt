@@ -2,16 +2,16 @@
 use Prim.Native.Nat.{_-_, _≤_}
 use borrow.Author.Needs.{needs}
 use Rattle.mirror.specs.Demand3.{report}
-use Rattle.mirror.proofs.Taking.{Taken, take-start, room-known, take-turn, take-end}
-use Rattle.grid.specs.Screen.{at}
+use Rattle.mirror.proofs.ArriveRows.{Replaced, take-start, room-known, take-turn, take-end}
+use Rattle.values.specs.Cursor.{at}
 use Rattle.mirror.proofs.arrive.take_rows.Statement.{statement}
 use Rattle.mirror.proofs.arrive.take_rows.Tie as tie
 
 abbrev Inv-loop : tie.InvT-loop
-Inv-loop rec₀ report mask at₀ r₀ rec at r = (r ≤ 25) × Taken report mask r at rec₀ rec
+Inv-loop rec₀ report from mask at₀ r₀ rec at r = (r ≤ 25) × Replaced report mask from r at rec₀ rec
 
 abbrev μ-loop : tie.MeasureT-loop
-μ-loop rec₀ report mask at₀ r₀ rec at r = 25 - r
+μ-loop rec₀ report from mask at₀ r₀ rec at r = 25 - r
 
 loop-holds : tie.Need-loop-holds Inv-loop μ-loop
 loop-holds c = search (needs, take-start)

@@ -1,6 +1,6 @@
 -- `mirror::mirror::front_ok` meets its contract. Assumes nothing.
 use borrow.Author.Needs.{needs}
-use Rattle.mirror.proofs.Mirrors.{high-wrong, low-wrong, version-tested}
+use Rattle.mirror.proofs.MirrorLaws.{high-wrong, low-wrong, version-tested}
 use Rattle.mirror.proofs.mirror.front_ok.Statement.{statement}
 use Rattle.mirror.proofs.mirror.front_ok.Tie as tie
 

@@ -1,6 +1,6 @@
 -- `mirror::mirror::mirror_new` meets its contract. Assumes nothing.
 use borrow.Author.Needs.{needs}
-use Rattle.mirror.proofs.Mirrors.{new-mirror-refused, new-mirror-done}
+use Rattle.mirror.proofs.MirrorLaws.{new-mirror-refused, new-mirror-done}
 use Rattle.mirror.proofs.mirror.mirror_new.Statement.{statement}
 use Rattle.mirror.proofs.mirror.mirror_new.Tie as tie
 

@@ -1,6 +1,6 @@
 -- `mirror::mirror::mirror_ok` meets its contract. Assumes nothing.
 use borrow.Author.Needs.{needs}
-use Rattle.mirror.proofs.Mirrors.{size-wrong, mirror-front-wrong, mirror-tested}
+use Rattle.mirror.proofs.MirrorLaws.{size-wrong, mirror-front-wrong, mirror-tested}
 use Rattle.mirror.proofs.mirror.mirror_ok.Statement.{statement}
 use Rattle.mirror.proofs.mirror.mirror_ok.Tie as tie
 

@@ -1,6 +1,6 @@
 -- `mirror::mirror::shown_ok` meets its contract. Assumes nothing.
 use borrow.Author.Needs.{needs}
-use Rattle.mirror.proofs.Mirrors.{record-wrong, touched-wrong, shown-tested}
+use Rattle.mirror.proofs.MirrorLaws.{record-wrong, touched-wrong, shown-tested}
 use Rattle.mirror.proofs.mirror.shown_ok.Statement.{statement}
 use Rattle.mirror.proofs.mirror.shown_ok.Tie as tie
 

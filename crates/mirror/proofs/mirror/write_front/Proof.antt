@@ -2,7 +2,7 @@
 use native.Mathlib.Omega.{arith}
 use lib.ListN.{length-set}
 use borrow.Author.Needs.{needs}
-use Rattle.mirror.proofs.Mirrors.{mirror-fronted}
+use Rattle.mirror.proofs.MirrorLaws.{mirror-fronted}
 use Rattle.mirror.proofs.mirror.write_front.Statement.{statement}
 use Rattle.mirror.proofs.mirror.write_front.Tie as tie
 
@@ -19,13 +19,13 @@ cast-mir-2 : tie.Need-cast-mir-2
 cast-mir-2 c = search needs
 
 slice-write-mir-2 : tie.Need-slice-write-mir-2
-slice-write-mir-2 c = simp length-set (omega arith)
+slice-write-mir-2 c = search needs
 
 slice-write-mir-3 : tie.Need-slice-write-mir-3
 slice-write-mir-3 c = simp length-set (omega arith)
 
 same-length : tie.Need-same-length
-same-length c = simp length-set (omega arith)
+same-length c = search needs
 
 returns : tie.Need-returns
 returns c = search (needs, mirror-fronted)

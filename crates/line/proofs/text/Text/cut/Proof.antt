@@ -1,6 +1,6 @@
 -- `line::text::Text::cut` meets its contract. Assumes nothing.
 use borrow.Author.Needs.{needs}
-use Rattle.line.proofs.Texts.{cut-end}
+use Rattle.line.proofs.TextLaws.{cut-end}
 use Rattle.line.proofs.text.Text.cut.Statement.{statement}
 use Rattle.line.proofs.text.Text.cut.Tie as tie
 

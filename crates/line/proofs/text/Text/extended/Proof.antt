@@ -1,6 +1,6 @@
 -- `line::text::Text::extended` meets its contract. Assumes nothing.
 use borrow.Author.Needs.{needs}
-use Rattle.line.proofs.Texts.{extended-end}
+use Rattle.line.proofs.TextLaws.{extended-end}
 use Rattle.line.proofs.text.Text.extended.Statement.{statement}
 use Rattle.line.proofs.text.Text.extended.Tie as tie
 

@@ -1,6 +1,6 @@
 -- `line::text::Text::inserted` meets its contract. Assumes nothing.
 use borrow.Author.Needs.{needs}
-use Rattle.line.proofs.Texts.{inserted-end}
+use Rattle.line.proofs.TextLaws.{inserted-end}
 use Rattle.line.proofs.text.Text.inserted.Statement.{statement}
 use Rattle.line.proofs.text.Text.inserted.Tie as tie
 

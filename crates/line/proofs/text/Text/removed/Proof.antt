@@ -1,6 +1,6 @@
 -- `line::text::Text::removed` meets its contract. Assumes nothing.
 use borrow.Author.Needs.{needs}
-use Rattle.line.proofs.Texts.{removed-end}
+use Rattle.line.proofs.TextLaws.{removed-end}
 use Rattle.line.proofs.text.Text.removed.Statement.{statement}
 use Rattle.line.proofs.text.Text.removed.Tie as tie
 

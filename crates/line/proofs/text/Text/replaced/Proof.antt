@@ -1,6 +1,6 @@
 -- `line::text::Text::replaced` meets its contract. Assumes nothing.
 use borrow.Author.Needs.{needs}
-use Rattle.line.proofs.Texts.{replaced-end}
+use Rattle.line.proofs.TextLaws.{replaced-end}
 use Rattle.line.proofs.text.Text.replaced.Statement.{statement}
 use Rattle.line.proofs.text.Text.replaced.Tie as tie
 

@@ -1,0 +1,31 @@
+// Numbers of four bytes, the highest first.
+ghost use mathlib.Core.Path.{_≡_};
+ghost use Prim.Native.Nat.{_+_, _≤_};
+ghost use lib.ListN.{length};
+ghost use Rattle.bytes.specs.Part.{write};
+ghost use Rattle.bytes.specs.Number.{bytes4, number4, fourAt};
+
+fn number(a: u8, b: u8, c: u8, d: u8) -> u32
+    ensures { λ n. ⌜ n ≡ number4 a b c d ⌝ }
+{
+    (a as u32) * 16777216 + (b as u32) * 65536 + (c as u32) * 256 + (d as u32)
+}
+
+// The number in the four bytes from index at on, the highest first.
+pub fn four_at(rec: &[u8], at: usize) -> u32
+    requires { ⌜ at + 4 ≤ length (now rec) ⌝ }
+    ensures { λ n. ⌜ n ≡ fourAt (now (rec .entry)) at ⌝ }
+{
+    number(rec[at], rec[at + 1], rec[at + 2], rec[at + 3])
+}
+
+// Writes a number as four bytes, the highest first.
+pub fn put4(rec: &mut [u8], at: usize, n: u32)
+    requires { ⌜ at + 4 ≤ length (now rec) ⌝ }
+    ensures { λ _. ⌜ now (rec .exit) ≡ write (now (rec .entry)) at (bytes4 n) ⌝ }
+{
+    rec[at] = (n / 16777216 % 256) as u8;
+    rec[at + 1] = (n / 65536 % 256) as u8;
+    rec[at + 2] = (n / 256 % 256) as u8;
+    rec[at + 3] = (n % 256) as u8;
+}

@@ -1,0 +1,70 @@
+-- `refusal`: what `change_refused` answers on each way out, and that this is what the tests of a call find.
+-- Assumes nothing.
+use Prim.Native.Nat.{ℕ}
+use mathlib.Core.Path.{_≡_, sym, ap, _∙_}
+use mathlib.Core.Bool.{Bool, true}
+use mathlib.Core.List.{List, [], _∷_, _++_}
+use mathlib.Core.Logic.{_≢_}
+use borrow.Author.Tests.{eq-eqb, ne-eqb}
+use Rattle.bytes.specs.Choice.{if_then_else_}
+use Rattle.bytes.specs.Answer.{refused}
+use Rattle.bytes.specs.Refusals.{firstOf, refusedWith, orElse}
+use Rattle.bytes.proofs.Found.{ordered, ordered-left, ordered-right, answer-append, else-here, else-past, else-none, refused-zero}
+use Rattle.grid.specs.Record.{serialOf, screenOf}
+use Rattle.grid.specs.Refusals.{recordTests}
+use Rattle.grid.proofs.RefusalLaws.{record-ordered, range-tested}
+use Rattle.editor.specs.Call.{Call, lengths, own}
+use Rattle.editor.specs.Outcome.{LAST-SERIAL, serialTests, changeTests}
+use Rattle.editor.proofs.Refusals.{tells}
+use Rattle.calls.specs.Answers.{changeAnswer}
+
+-- ---- `change_refused`: n is what `record_refused` has answered, o what the call's own refusals answer
+
+module _ (long : Bool) (l : List ℕ) (o n : ℕ) (is : n ≡ refusedWith (firstOf (recordTests long l))) where
+  pub refused-record : n ≢ 0 → n ≡ changeAnswer long o l
+  unfolding changeAnswer
+  refused-record ne = is ∙ else-here _ _ (λ q. ne (is ∙ q))
+
+  past : n ≡ 0 → (m : ℕ) → m ≡ orElse o (refusedWith (firstOf (serialTests l))) → m ≡ changeAnswer long o l
+  unfolding changeAnswer
+  past z m e = e ∙ else-past _ _ (sym is ∙ z)
+
+  pub refused-own : n ≡ 0 → o ≢ 0 → o ≡ changeAnswer long o l
+  refused-own z ne = past z o (else-here _ _ ne)
+
+  pub refused-serial : (serial : ℕ) → n ≡ 0 → o ≡ 0 → serial ≡ serialOf l → serial ≡ LAST-SERIAL → refused 4 ≡ changeAnswer long o l
+  unfolding serialTests firstOf refusedWith if_then_else_
+  refused-serial serial z y es e = past z (refused 4) (rw (eq-eqb (serialOf l) LAST-SERIAL (sym es ∙ e)) (else-past o _ y))
+
+  pub refused-not : (serial : ℕ) → n ≡ 0 → o ≡ 0 → serial ≡ serialOf l → serial ≢ LAST-SERIAL → 0 ≡ changeAnswer long o l
+  unfolding serialTests firstOf refusedWith if_then_else_
+  refused-not serial z y es ne = past z 0 (rw (ne-eqb (serialOf l) LAST-SERIAL (λ q. ne (es ∙ q))) (else-past o _ y))
+
+-- ---- the tests of a call: o is what its own refusals answer
+
+module _ (c : Call) (l : List ℕ) (o : ℕ) (io : o ≡ refusedWith (firstOf (own c (screenOf l)))) where
+  pub tests-answer : changeAnswer (lengths c) o l ≡ refusedWith (firstOf (changeTests c l))
+  unfolding changeAnswer changeTests
+  tests-answer =
+      let first : List (ℕ × Bool) = recordTests (lengths c) l in
+      let mine : List (ℕ × Bool) = own c (screenOf l) in
+      let late : ordered 0 (mine ++ serialTests l) ≡ true = ordered-right 0 first (mine ++ serialTests l) (tells c .order l) in
+      ap (λ (x : ℕ). orElse (refusedWith (firstOf first)) (orElse x (refusedWith (firstOf (serialTests l))))) io
+      ∙ ap (orElse (refusedWith (firstOf first))) (sym (answer-append 0 mine (serialTests l) (ordered-left 0 mine (serialTests l) late)))
+      ∙ sym (answer-append 0 first (mine ++ serialTests l) (record-ordered l (lengths c)))
+
+-- a call without refusals of its own
+pub no-own : 0 ≡ refusedWith (firstOf [])
+unfolding firstOf
+no-own = sym refused-zero
+
+-- one whose argument a function of its own has tested
+pub tested-own : (ok t : Bool) (o : ℕ) → t ≡ ok → o ≡ refusedWith (firstOf ((3, t) ∷ [])) → o ≡ refusedWith (firstOf ((3, ok) ∷ []))
+tested-own ok t o it io = io ∙ ap (λ (b : Bool). refusedWith (firstOf ((3, b) ∷ []))) it
+
+-- an argument of an accepted call is in range
+pub range-known : (ok long : Bool) (l : List ℕ) (o k : ℕ) → o ≡ refusedWith (firstOf ((3, ok) ∷ [])) → k ≡ changeAnswer long o l → k ≡ 0 → ok ≡ true
+unfolding changeAnswer
+range-known ok long l o k io is zero =
+    let rest = else-none (refusedWith (firstOf (recordTests long l))) _ (sym is ∙ zero) in
+    range-tested ok (sym io ∙ else-none o _ (rest .1) .0)

@@ -1,0 +1,55 @@
+-- `calls::lines::ctrl_enter` meets its contract. Assumes nothing.
+use borrow.Author.Needs.{needs}
+use Rattle.calls.proofs.Changing.{call-size, copy-size, call-copied, copy-serial, call-refused, copied-fits, copied-done}
+use Rattle.calls.proofs.RefusalLaws.{no-own}
+use Rattle.editor.specs.Call.{lengths, own, answer, rule}
+use Rattle.calls.proofs.lines.ctrl_enter.Statement.{statement}
+use Rattle.calls.proofs.lines.ctrl_enter.Tie as tie
+
+change-refused-requires : tie.Need-change-refused-requires
+change-refused-requires c κs = search needs
+
+same-length : tie.Need-same-length
+same-length c = search needs
+
+returns : tie.Need-returns
+unfolding lengths own rule
+returns c = search (needs, call-refused, no-own)
+
+copy-of-requires : tie.Need-copy-of-requires
+copy-of-requires c κs = search (needs, call-size)
+
+slice-aggregate-ctrl-enter : tie.Need-slice-aggregate-ctrl-enter
+slice-aggregate-ctrl-enter c = search needs
+
+ctrl-enter-requires : tie.Need-ctrl-enter-requires
+ctrl-enter-requires c κs = search (needs, call-copied)
+
+slice-aggregate-finish : tie.Need-slice-aggregate-finish
+slice-aggregate-finish c = search needs
+
+finish-requires : tie.Need-finish-requires
+unfolding lengths own rule
+finish-requires c κs = (search (needs, call-size), search (needs, copy-size), search (needs, copied-fits, no-own), search (needs, copy-serial))
+
+same-length-2 : tie.Need-same-length-2
+same-length-2 c = search needs
+
+returns-2 : tie.Need-returns-2
+unfolding lengths own answer rule
+returns-2 c = search (needs, copied-done, no-own)
+
+pub ctrl-enter-spec : {M : Type 1} → statement M
+ctrl-enter-spec =
+    tie.close
+    (tie.spec
+    change-refused-requires
+    same-length
+    returns
+    copy-of-requires
+    slice-aggregate-ctrl-enter
+    ctrl-enter-requires
+    slice-aggregate-finish
+    finish-requires
+    same-length-2
+    returns-2)

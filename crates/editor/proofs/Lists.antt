@@ -1,0 +1,146 @@
+-- Lists of calls: a refused call leaves the record as it was, an accepted one leaves what the rules say, which a record can hold; so after any number of
+-- calls the record is that of the accepted ones among them.
+-- Assumes nothing.
+use Prim.Native.Nat.{ℕ, _^_, _<_, zero, suc, _+_}
+use mathlib.Core.Path.{_≡_, sym, ap, _∙_, subst, refl}
+use mathlib.Core.Bool.{true, false, Bool}
+use mathlib.Core.List.{List, [], _∷_}
+use native.Mathlib.Omega.{arith}
+use lib.ListN.{length, getD, take}
+use mathlib.Core.Logic.{_≢_}
+use Rattle.bytes.specs.Answer.{isRefusal}
+use Rattle.grid.specs.Layout.{SIZE, SERIAL, MASKS}
+use Rattle.grid.specs.Screen.{Row, State, number, differing, touchedRows, newState}
+use Rattle.grid.specs.Record.{serialOf, stampOf, readState, stateBytes}
+use Rattle.bytes.specs.Test.{every, isByte}
+use Rattle.bytes.proofs.NumberLaws.{isByte-lt}
+use Rattle.grid.specs.Facts.{RowsFacts, StateFacts, Valid}
+use Rattle.bytes.proofs.Bools.{cases}
+use Rattle.grid.proofs.Bytes.{state-back, serial-back, state-valid, bytes-back}
+use Rattle.grid.proofs.TouchedLaws.{number-lt, length-differing}
+use Rattle.grid.proofs.Validity.{screen-facts, screen-valid, valid-facts}
+use Rattle.editor.specs.Call.{Call, inRange, step}
+use Rattle.editor.specs.Outcome.{LAST-SERIAL, Outcome, changing}
+use Rattle.editor.proofs.KeptCall.{apply-facts}
+use Rattle.editor.proofs.Refusals.{changing-answers, change-none, going}
+use Rattle.bytes.proofs.Found.{is-accepted, is-refused}
+use Rattle.bytes.specs.Choice.{if_then_else_}
+use Rattle.grid.proofs.Keep.{new-screen}
+use Rattle.editor.specs.Lists.{steps, accepted, screenLeft, recordLeft}
+
+-- the mask of touched rows
+pub touched-lt : {w v : ℕ} {old new : List Row} → RowsFacts w 25 old → RowsFacts v 25 new → touchedRows old new < MASKS
+unfolding touchedRows
+touched-lt {old = old} {new = new} f g =
+    let n : length (differing old new) ≡ 25 = length-differing old new (f .count ∙ sym (g .count)) ∙ f .count in
+    subst (λ (i : ℕ). number (differing old new) < 2 ^ i) n (number-lt (differing old new))
+
+module _ (c : Call) (t : State) (f : StateFacts t) where
+  pub state-step : inRange c (t .screen) ≡ true → t .stamp .serial < LAST-SERIAL → StateFacts (step c t)
+  unfolding step
+  state-step r h =
+      let old = screen-facts (t .screen) (f .screen) in
+      let new = apply-facts c (t .screen) r old in
+      record { serial = omega arith; touched = touched-lt (old .rows) (new .rows); screen = screen-valid _ new }
+
+-- ---- one call
+
+pub change-refused : (c : Call) (l : List ℕ) → isRefusal (changing c l .number) ≡ true → changing c l .rec ≡ l
+change-refused c l r = changing-answers c l .kept (is-refused _ r) .0
+
+pub record Changed (c : Call) (t : State) : Type 0 where
+  pub left : changing c (stateBytes t) .rec ≡ stateBytes (step c t)
+  pub facts : StateFacts (step c t)
+
+pub change-accepted : (c : Call) (t : State) → StateFacts t → isRefusal (changing c (stateBytes t) .number) ≡ false → Changed c t
+unfolding readState
+change-accepted c t f r =
+    let h = is-accepted _ r in
+    let g = going c (stateBytes t) (change-none c (stateBytes t) h) in
+    let back = state-back t f in
+    let range : inRange c (t .screen) ≡ true = ap (λ (x : State). inRange c (x .screen)) (sym back) ∙ g .in-range in
+    let serial : t .stamp .serial ≢ LAST-SERIAL = λ q. g .serial (serial-back t f ∙ q) in
+    record {
+      left = ap (λ (o : Outcome). o .rec) (changing-answers c (stateBytes t) .done h) ∙ ap (λ (x : State). stateBytes (step c x)) back;
+      facts = state-step c t f range (omega (arith, f));
+    }
+
+-- ---- a call on a valid record leaves a valid record
+
+state-of : (l : List ℕ) → Valid l → every isByte l ≡ true → StateFacts (readState l)
+unfolding readState stampOf serialOf
+state-of l v b =
+    let at : (i : ℕ) → i < SIZE → getD l i 0 < 256 = λ i h. isByte-lt l i b (omega (arith, v .size)) in
+    let a = at SERIAL (omega arith) in
+    let b = at (SERIAL + 1) (omega arith) in
+    let c = at (SERIAL + 2) (omega arith) in
+    let d = at (SERIAL + 3) (omega arith) in
+    record { serial = omega arith; touched = v .touched; screen = screen-valid _ (v .screen) }
+
+pub valid-kept : (c : Call) (l : List ℕ) → every isByte l ≡ true → Valid l → Valid (changing c l .rec)
+valid-kept c l b v = go (isRefusal (changing c l .number)) refl
+  where
+    go : (r : Bool) → isRefusal (changing c l .number) ≡ r → Valid (changing c l .rec)
+    go true e = subst Valid (sym (change-refused c l e)) v
+    go false e =
+        let back = bytes-back l v b in
+        let p = change-accepted c (readState l) (state-of l v b) (ap (λ (x : List ℕ). isRefusal (changing c x .number)) back ∙ e) in
+        subst Valid (ap (λ (x : List ℕ). changing c x .rec) back) (subst Valid (sym (p .left)) (valid-facts _ (state-valid _ (p .facts))))
+
+-- ---- accepted calls, from any state
+
+pub steps-serial : (ds : List Call) (t : State) → steps ds t .stamp .serial ≡ t .stamp .serial + length ds
+unfolding steps step
+steps-serial [] t = omega arith
+steps-serial (d ∷ ds) t = omega (arith, steps-serial ds (step d t))
+
+pub steps-screen : (ds : List Call) (t : State) → steps ds t .screen ≡ screenLeft (t .screen) ds
+unfolding steps step screenLeft
+steps-screen [] t = refl
+steps-screen (d ∷ ds) t = steps-screen ds (step d t)
+
+-- what the last call has touched is what differs from the screen before it
+pub steps-touched : (m : ℕ) (ds : List Call) (t : State) → m < length ds
+    → steps (take (suc m) ds) t .stamp .touched ≡ touchedRows (steps (take m ds) t .screen .rows) (steps (take (suc m) ds) t .screen .rows)
+unfolding steps step
+steps-touched m [] t h = absurd (omega arith)
+steps-touched zero (d ∷ ds) t h = refl
+steps-touched (suc m) (d ∷ ds) t h = steps-touched m ds (step d t) (omega arith)
+
+-- ---- calls, accepted or not, from the record of a state
+
+-- the accepted ones of the first k calls are the first accepted ones
+pub accepted-first : (k : ℕ) (cs : List Call) (l : List ℕ) → accepted l (take k cs) ≡ take (length (accepted l (take k cs))) (accepted l cs)
+unfolding accepted if_then_else_
+accepted-first zero cs l = refl
+accepted-first (suc k) [] l = refl
+accepted-first (suc k) (c ∷ cs) l = go (isRefusal (changing c l .number)) (accepted-first k cs (changing c l .rec))
+  where
+    go : (b : Bool) → let ds = accepted (changing c l .rec) (take k cs) in
+        let es = accepted (changing c l .rec) cs in
+        ds ≡ take (length ds) es
+        → (if b then ds else c ∷ ds) ≡ take (length (if b then ds else c ∷ ds)) (if b then es else c ∷ es)
+    go true e = e
+    go false e = ap (λ (ds : List Call). c ∷ ds) e
+
+pub calls-left : (cs : List Call) (t : State) → StateFacts t
+    → recordLeft (stateBytes t) cs ≡ stateBytes (steps (accepted (stateBytes t) cs) t)
+unfolding accepted steps recordLeft
+calls-left [] t f = refl
+calls-left (c ∷ cs) t f =
+    cases (λ (ds : List Call). recordLeft (changing c (stateBytes t) .rec) cs ≡ stateBytes (steps ds t)) _ _ _
+    (λ e. rw (change-refused c (stateBytes t) e) (calls-left cs t f))
+    (λ e. let p = change-accepted c t f e in rw (p .left) (calls-left cs (step c t) (p .facts)))
+
+pub calls-facts : (m : ℕ) (cs : List Call) (t : State) → StateFacts t → StateFacts (steps (take m (accepted (stateBytes t) cs)) t)
+unfolding accepted steps
+calls-facts zero cs t f = f
+calls-facts (suc m) [] t f = f
+calls-facts (suc m) (c ∷ cs) t f =
+    cases (λ (ds : List Call). StateFacts (steps (take (suc m) ds) t)) _ _ _
+    (λ e. rw (change-refused c (stateBytes t) e) (calls-facts (suc m) cs t f))
+    (λ e. let p = change-accepted c t f e in rw (p .left) (calls-facts m cs (step c t) (p .facts)))
+
+pub new-facts : (w : ℕ) → StateFacts (newState w)
+unfolding newState
+new-facts w = record { serial = omega arith; touched = omega arith; screen = screen-valid _ (new-screen w) }

@@ -1,2 +1,0 @@
--- Every example of the list holds.
-pub mod Checked

@@ -1,2 +1,0 @@
--- The one checked list of document 01's examples.
-pub mod Examples

@@ -1,0 +1,3 @@
+-- Every promise is kept, every example holds.
+pub mod Checked
+pub mod Promises

@@ -1,0 +1,3 @@
+-- The laws of the reading and text calls.
+pub mod ReadingLaws
+pub mod TextLaws

@@ -1,0 +1,34 @@
+-- `report::front::read_front` meets its contract. Assumes nothing.
+use borrow.Author.Needs.{needs}
+use Rattle.report.proofs.FrontLaws.{front-read}
+use Rattle.report.proofs.front.read_front.Statement.{statement}
+use Rattle.report.proofs.front.read_front.Tie as tie
+
+shared-slice-read-kind-of : tie.Need-shared-slice-read-kind-of
+shared-slice-read-kind-of c = search needs
+
+kind-of-requires : tie.Need-kind-of-requires
+kind-of-requires c κs = search needs
+
+four-at-requires : tie.Need-four-at-requires
+four-at-requires c κs = search needs
+
+four-at-requires-2 : tie.Need-four-at-requires-2
+four-at-requires-2 c κs = search needs
+
+head-at-requires : tie.Need-head-at-requires
+head-at-requires c κs = search needs
+
+returns : tie.Need-returns
+returns c = search (needs, front-read)
+
+pub read-front-spec : {M : Type 1} → statement M
+read-front-spec =
+    tie.close
+    (tie.spec
+    shared-slice-read-kind-of
+    kind-of-requires
+    four-at-requires
+    four-at-requires-2
+    head-at-requires
+    returns)
