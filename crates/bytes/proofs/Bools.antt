@@ -46,6 +46,13 @@ pub or-cases : (a b : Bool) → a || b ≡ true → (a ≡ true) ⊎ (b ≡ true
 or-cases true b e = inl refl
 or-cases false b e = inr e
 
+pub or-left : (a b : Bool) → a ≡ true → a || b ≡ true
+or-left a b e = rw e
+
+pub or-right : (a b : Bool) → b ≡ true → a || b ≡ true
+or-right true b e = refl
+or-right false b e = e
+
 -- THE LAW of a choice: what both answers have, each under its test, the choice has
 pub cases {ℓ ℓ′} : {A : Type ℓ} (P : A → Type ℓ′) (b : Bool) (x y : A) → (b ≡ true → P x) → (b ≡ false → P y) → P (if b then x else y)
 unfolding if_then_else_
@@ -120,6 +127,11 @@ module _ {ℓ} {A : Type ℓ} (p : A → Bool) where
   every-at [] i d e h = absurd (not-suc-le-zero h)
   every-at (x ∷ xs) zero d e h = and-left (p x) (every p xs) e
   every-at (x ∷ xs) (suc i) d e h = every-at xs i d (and-right (p x) (every p xs) e) (le-of-suc-le-suc h)
+
+  pub at-every : (xs : List A) (d : A) → ((i : ℕ) → i < length xs → p (getD xs i d) ≡ true) → every p xs ≡ true
+  unfolding every
+  at-every [] d each = refl
+  at-every (x ∷ xs) d each = and-both (p x) (every p xs) (each 0 (omega arith)) (at-every xs d (λ i h. each (suc i) (omega arith)))
 
   pub every-replicate : (n : ℕ) (x : A) → p x ≡ true → every p (replicate n x) ≡ true
   unfolding every

@@ -1,9 +1,24 @@
-// Numbers of four bytes, the highest first.
+// Numbers of one, two and four bytes, the highest first.
 ghost use mathlib.Core.Path.{_≡_};
-ghost use Prim.Native.Nat.{_+_, _≤_};
-ghost use lib.ListN.{length};
+ghost use Prim.Native.Nat.{_+_, _≤_, _<_};
+ghost use lib.ListN.{length, getD};
 ghost use Rattle.bytes.specs.Part.{write};
-ghost use Rattle.bytes.specs.Number.{bytes4, number4, fourAt};
+ghost use Rattle.bytes.specs.Number.{bytes4, number2, number4, fourAt};
+
+// A byte as a number to count with.
+pub fn wide(x: u8) -> usize
+    ensures { λ n. ⌜ (n ≡ x) × (n < 256) ⌝ }
+{
+    x as usize
+}
+
+// The number in the two bytes from index at on, the higher first.
+pub fn two_at(rec: &[u8], at: usize) -> usize
+    requires { ⌜ at + 2 ≤ length (now rec) ⌝ }
+    ensures { λ n. ⌜ n ≡ number2 (getD (now (rec .entry)) at 0) (getD (now (rec .entry)) (at + 1) 0) ⌝ }
+{
+    wide(rec[at]) * 256 + wide(rec[at + 1])
+}
 
 fn number(a: u8, b: u8, c: u8, d: u8) -> u32
     ensures { λ n. ⌜ n ≡ number4 a b c d ⌝ }

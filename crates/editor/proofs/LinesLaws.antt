@@ -179,14 +179,16 @@ module _ (l old : List ℕ) (h : Head) (copied : Copied l old) (ih : h ≡ headO
       let k : end - 1 < 25 = omega (arith, last-row) in
       rw (sym is ∙ y, d) (record { becomes = flag-left l m old (end - 1) 0 (copied .copy) k b; head = ih })
 
+  -- the first column of any row up to the span's last is a place for the cursor
+  pub begins-row : (g : Head) (c : Cursor) (r : ℕ) → c ≡ at r 0 → g ≡ withCursor h c → r ≤ end → HeadFacts g
+  begins-row g c r ec eg k =
+      let f = head-facts in
+      rw (eg, ec)
+      (head-is _ (f .widths) (omega (arith, span .inside)) (omega (arith, f .width-from)) (f .insert) (f .keys) (f .foreground) (f .background))
+
   module _ (g : Head) (c : Cursor) (ec : c ≡ at end 0) (eg : g ≡ withCursor h c) where
     at-end : g ≡ withCursor h (at end 0)
     at-end = eg ∙ ap (withCursor h) ec
-
-    pub end-facts : HeadFacts g
-    end-facts =
-        let f = head-facts in
-        rw at-end (head-is _ (f .widths) (span .inside) (omega (arith, f .width-from)) (f .insert) (f .keys) (f .foreground) (f .background))
 
     pub take-next : (m : List ℕ) (u : Head) → t ≡ false → Leaves (nextRow (record { head = g; rows = rowsOf l })) l m u
         → Leaves (takeLogicalLine (screenOf old)) l m u

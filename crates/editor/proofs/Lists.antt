@@ -14,11 +14,13 @@ use Rattle.grid.specs.Screen.{Row, State, number, differing, touchedRows, newSt
 use Rattle.grid.specs.Record.{serialOf, stampOf, readState, stateBytes}
 use Rattle.bytes.specs.Test.{every, isByte}
 use Rattle.bytes.proofs.NumberLaws.{isByte-lt}
+use Rattle.grid.specs.Conditions.{ValidRecord}
 use Rattle.grid.specs.Facts.{RowsFacts, StateFacts, Valid}
 use Rattle.bytes.proofs.Bools.{cases}
 use Rattle.grid.proofs.Bytes.{state-back, serial-back, state-valid, bytes-back}
 use Rattle.grid.proofs.TouchedLaws.{number-lt, length-differing}
-use Rattle.grid.proofs.Validity.{screen-facts, screen-valid, valid-facts}
+use Rattle.grid.proofs.Validity.{screen-facts, screen-valid}
+use Rattle.grid.proofs.Conditions.{conditions-record, record-facts}
 use Rattle.editor.specs.Call.{Call, inRange, step}
 use Rattle.editor.specs.Outcome.{LAST-SERIAL, Outcome, changing}
 use Rattle.editor.proofs.KeptCall.{apply-facts}
@@ -77,15 +79,16 @@ state-of l v b =
     let d = at (SERIAL + 3) (omega arith) in
     record { serial = omega arith; touched = v .touched; screen = screen-valid _ (v .screen) }
 
-pub valid-kept : (c : Call) (l : List ℕ) → every isByte l ≡ true → Valid l → Valid (changing c l .rec)
+pub valid-kept : (c : Call) (l : List ℕ) → every isByte l ≡ true → ValidRecord l → ValidRecord (changing c l .rec)
 valid-kept c l b v = go (isRefusal (changing c l .number)) refl
   where
-    go : (r : Bool) → isRefusal (changing c l .number) ≡ r → Valid (changing c l .rec)
-    go true e = subst Valid (sym (change-refused c l e)) v
+    go : (r : Bool) → isRefusal (changing c l .number) ≡ r → ValidRecord (changing c l .rec)
+    go true e = subst ValidRecord (sym (change-refused c l e)) v
     go false e =
-        let back = bytes-back l v b in
-        let p = change-accepted c (readState l) (state-of l v b) (ap (λ (x : List ℕ). isRefusal (changing c x .number)) back ∙ e) in
-        subst Valid (ap (λ (x : List ℕ). changing c x .rec) back) (subst Valid (sym (p .left)) (valid-facts _ (state-valid _ (p .facts))))
+        let w = conditions-record l v in
+        let back = bytes-back l w b in
+        let p = change-accepted c (readState l) (state-of l w b) (ap (λ (x : List ℕ). isRefusal (changing c x .number)) back ∙ e) in
+        subst ValidRecord (ap (λ (x : List ℕ). changing c x .rec) back) (subst ValidRecord (sym (p .left)) (record-facts _ (state-valid _ (p .facts))))
 
 -- ---- accepted calls, from any state
 

@@ -6,10 +6,12 @@ use mathlib.Core.Path.{_≡_, refl, sym, ap, _∙_, subst}
 use mathlib.Core.Bool.{Bool, true, false, not}
 use mathlib.Core.List.{List, [], _∷_, _++_}
 use native.Mathlib.Omega.{arith}
+use native.Mathlib.Decide.{ℕ-discrete}
 use lib.Dec.{leb, ltb, eqb}
 use lib.ListN.{length, take, drop, set}
 use borrow.Author.Tests.{not-true, not-false, lt-ltb, le-ltb, le-leb, lt-leb, eq-eqb, ne-eqb}
 use Rattle.bytes.specs.Choice.{if_then_else_}
+use Rattle.bytes.proofs.Bools.{pick, skip}
 use Rattle.grid.specs.Screen.{printable, editable}
 use Rattle.grid.specs.Record.{rowsOf, headOf, screenOf, Leaves}
 use Rattle.grid.specs.Facts.{HeadFacts}
@@ -106,6 +108,18 @@ typed-done l m old g ch u t eu nu holds x = rw (sym eu ∙ not-false u nu, ← (
 
 -- ---- delete_char, backspace: t is the content, t′ what is spliced in
 
+pub before-edge : (col i : ℕ) → 0 < col → i - 1 ≡ (if eqb col 0 then i else i - 1)
+before-edge col i k = sym (skip _ _ _ (ne-eqb col 0 (λ q. omega arith)))
+
+pub at-edge : (col i : ℕ) → col ≤ 0 → i ≡ (if eqb col 0 then i else i - 1)
+at-edge col i k = sym (pick _ _ _ (eq-eqb col 0 (omega arith)))
+
+-- at the left edge backspace is delete
+back-deleted : (l m old : List ℕ) (h g : Head) → h ≡ headOf old → h .cursor .col ≡ 0 → Leaves (apply DeleteChar (screenOf old)) l m g
+    → Leaves (apply Backspace (screenOf old)) l m g
+unfolding apply rule backspace if_then_else_
+back-deleted l m old h g ih c left = rw (eq-eqb (headOf old .cursor .col) 0 (ap (λ (x : Head). x .cursor .col) (sym ih) ∙ c)) left
+
 module _ (l old : List ℕ) (h : Head) (t : Text) (holds : Holds t (content (screenOf old)) (index (screenOf old))) where
   count : length (content (screenOf old)) ≡ t .len
   count = ap length (sym (holds .text)) ∙ length-text t (holds .sound)
@@ -127,7 +141,7 @@ module _ (l old : List ℕ) (h : Head) (t : Text) (holds : Holds t (content (scr
     unfolding apply rule eraseToEnd
     erased new = rw (← (holds .text), ← (holds .at), ← (new .text), ← (new .at)) left
 
-  module _ (ih : h ≡ headOf old) (right : h .cursor .col ≡ 0 → ⊥) where
+  module _ (ih : h ≡ headOf old) (right : 0 < h .cursor .col) where
     -- the cursor stands behind a character
     pub index-low : 1 ≤ t .index
     unfolding index
@@ -137,23 +151,46 @@ module _ (l old : List ℕ) (h : Head) (t : Text) (holds : Holds t (content (scr
         let e : t .index ≡ min MAX-LOGICAL (w + headOf old .cursor .col) = holds .at in
         omega arith
 
-    pub index-before : t .index - 1 < t .len
+    index-before : t .index - 1 < t .len
     index-before = omega (arith, index-low, holds .sound .within)
 
-    pub backspaced : (m : List ℕ) (g : Head) (t′ : Text) → Leaves (splice (screenOf old) (textOf t′) (t′ .index)) l m g
+    backspaced : (m : List ℕ) (g : Head) (t′ : Text) → Leaves (splice (screenOf old) (textOf t′) (t′ .index)) l m g
         → Holds t′ (take (t .index - 1) (textOf t) ++ drop (t .index - 1 + 1) (textOf t)) (t .index - 1) → Leaves (apply Backspace (screenOf old)) l m g
     unfolding apply rule backspace if_then_else_
     backspaced m g t′ left new =
         let k : t .index - 1 + 1 ≡ t .index = omega (arith, index-low) in
-        let c : eqb (headOf old .cursor .col) 0 ≡ false = ne-eqb _ _ (λ q. right (ap (λ (x : Head). x .cursor .col) ih ∙ q)) in
+        let k₀ : 0 < headOf old .cursor .col = subst (λ (x : Head). 0 < x .cursor .col) ih right in
+        let c : eqb (headOf old .cursor .col) 0 ≡ false = ne-eqb (headOf old .cursor .col) 0 (λ q. omega arith) in
         let text = new .text in
         let e : textOf t′ ≡ take (t .index - 1) (textOf t) ++ drop (t .index) (textOf t) = rw k at text in
         rw c (rw (← (holds .text), ← (holds .at), ← e, ← (new .at)) left)
 
-pub back-deleted : (l m old : List ℕ) (h g : Head) → h ≡ headOf old → h .cursor .col ≡ 0 → Leaves (apply DeleteChar (screenOf old)) l m g
-    → Leaves (apply Backspace (screenOf old)) l m g
-unfolding apply rule backspace if_then_else_
-back-deleted l m old h g ih c left = rw (eq-eqb (headOf old .cursor .col) 0 (ap (λ (x : Head). x .cursor .col) (sym ih) ∙ c)) left
+  -- k is what `backspace_index` has answered
+  module _ (ih : h ≡ headOf old) (k : ℕ) (at : k ≡ (if eqb (h .cursor .col) 0 then t .index else t .index - 1)) where
+    edge : h .cursor .col ≡ 0 → k ≡ t .index
+    edge q = at ∙ pick _ _ _ (eq-eqb _ _ q)
+
+    off-edge : (h .cursor .col ≡ 0 → ⊥) → k ≡ t .index - 1
+    off-edge ne = at ∙ skip _ _ _ (ne-eqb _ _ ne)
+
+    pub back-none : Copied l old → t .len ≤ k → Leaves (apply Backspace (screenOf old)) l l h
+    back-none copied q = go (ℕ-discrete (h .cursor .col) 0)
+      where
+        go : Dec (h .cursor .col ≡ 0) → Leaves (apply Backspace (screenOf old)) l l h
+        go (yes e) = back-deleted l l old h h ih e (deleted-none copied ih (omega (arith, edge e)))
+        go (no ne) = absurd (omega (arith, index-before ih (omega arith), off-edge ne))
+
+    pub back-done : (m : List ℕ) (g : Head) (t′ : Text) → Leaves (splice (screenOf old) (textOf t′) (t′ .index)) l m g
+        → Holds t′ (take k (textOf t) ++ drop (k + 1) (textOf t)) k → k < t .len → Leaves (apply Backspace (screenOf old)) l m g
+    back-done m g t′ left new q = go (ℕ-discrete (h .cursor .col) 0)
+      where
+        go : Dec (h .cursor .col ≡ 0) → Leaves (apply Backspace (screenOf old)) l m g
+        go (yes e) =
+            let d : Holds t′ (take (t .index) (textOf t) ++ drop (t .index + 1) (textOf t)) (t .index) = subst (λ (i : ℕ). Holds t′ (take i (textOf t) ++ drop (i + 1) (textOf t)) i) (edge e) new in
+            back-deleted l m old h g ih e (deleted m g t′ left d (omega (arith, edge e)))
+        go (no ne) =
+            let d : Holds t′ (take (t .index - 1) (textOf t) ++ drop (t .index - 1 + 1) (textOf t)) (t .index - 1) = subst (λ (i : ℕ). Holds t′ (take i (textOf t) ++ drop (i + 1) (textOf t)) i) (off-edge ne) new in
+            backspaced ih (omega arith) m g t′ left d
 
 -- ---- escape_line
 

@@ -11,7 +11,7 @@ use Rattle.bytes.specs.Refusals.{Refuses}
 use Rattle.grid.specs.Layout.{SIZE}
 use Rattle.grid.specs.Screen.{Screen, newState}
 use Rattle.grid.specs.Record.{serialOf, screenOf, readState, stateBytes}
-use Rattle.grid.specs.Facts.{Valid}
+use Rattle.grid.specs.Conditions.{ValidRecord}
 use Rattle.editor.specs.Call.{Call, output, submitted, answer, step}
 use Rattle.editor.specs.Call.Call.{TypeChar, TakeLogicalLine, SetWidth, SetInsert, SetAttr, SetKeysOn}
 use Rattle.editor.specs.Outcome.{changing, creating, Query, value, asking, TextCall, textOf, texting}
@@ -36,7 +36,7 @@ pub data ArgumentRefused (s : Screen) : Call → ℕ → Type 0 where
 pub data ChangeRefused (c : Call) (l : List ℕ) : ℕ → Type 0 where
   record-length : length l ≢ SIZE → ChangeRefused c l 1
   lent-length : WrongLength c → ChangeRefused c l 1
-  layout : ¬ Valid l → ChangeRefused c l 2
+  layout : ¬ ValidRecord l → ChangeRefused c l 2
   argument : {k : ℕ} → ArgumentRefused (screenOf l) c k → ChangeRefused c l k
   last-serial : serialOf l ≡ 4294967295 → ChangeRefused c l 4
 
@@ -72,7 +72,7 @@ pub data Outside (s : Screen) : Query → Type 0 where
 
 pub data QueryRefused (q : Query) (l : List ℕ) : ℕ → Type 0 where
   record-length : length l ≢ SIZE → QueryRefused q l 1
-  layout : ¬ Valid l → QueryRefused q l 2
+  layout : ¬ ValidRecord l → QueryRefused q l 2
   argument : Outside (screenOf l) q → QueryRefused q l 3
 
 pub record AskingAnswers (q : Query) (l : List ℕ) : Type 0 where
@@ -89,7 +89,7 @@ pub data ShortText (out : List ℕ) : TextCall → Type 0 where
 pub data TextRefused (q : TextCall) (l out : List ℕ) : ℕ → Type 0 where
   record-length : length l ≢ SIZE → TextRefused q l out 1
   output-length : ShortText out q → TextRefused q l out 1
-  layout : ¬ Valid l → TextRefused q l out 2
+  layout : ¬ ValidRecord l → TextRefused q l out 2
 
 pub record TextingAnswers (q : TextCall) (l out : List ℕ) : Type 0 where
   pub number : Refuses (TextRefused q l out) (texting q l out .number)

@@ -7,16 +7,13 @@ use grid::row;
 use grid::valid;
 use values::cursor::Cursor;
 ghost use mathlib.Core.Path.{_≡_};
-ghost use mathlib.Core.Bool.{_&&_};
-ghost use Prim.Native.Nat.{_-_, _≤_, _<_};
-ghost use lib.Dec.{ltb, eqb};
+ghost use Prim.Native.Nat.{_≤_, _<_};
 ghost use lib.ListN.{length, take};
 ghost use Rattle.bytes.specs.Choice.{if_then_else_};
 ghost use Rattle.grid.specs.Layout.{SIZE};
 ghost use Rattle.grid.specs.Screen.{isEmpty, isSpace, trim, setFlag};
 ghost use Rattle.grid.specs.Record.{rowOf, rowsOf, screenOf, Leaves};
 ghost use Rattle.grid.specs.Facts.{HeadFacts, Valid};
-ghost use Rattle.line.specs.Line.{flagged};
 ghost use Rattle.editor.specs.Print.{wrapped, nextRow, newline, putChar, printByte};
 ghost use Rattle.editor.specs.Call.{PrintBytes, apply};
 

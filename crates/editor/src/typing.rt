@@ -7,6 +7,10 @@ use line::span::span_at;
 use line::splice::splice_logical;
 use line::text::MAX_LOGICAL;
 use line::text::Text;
+ghost use mathlib.Core.Path.{_≡_};
+ghost use Prim.Native.Nat.{_-_, _≤_, _<_};
+ghost use lib.Dec.{eqb};
+ghost use Rattle.bytes.specs.Choice.{if_then_else_};
 ghost use Rattle.grid.specs.Record.{screenOf, Leaves};
 ghost use Rattle.line.specs.Given.{Begun, SpanIs};
 ghost use Rattle.line.specs.Text.{Sound, textOf};
@@ -61,17 +65,29 @@ pub fn delete_char(rec: &mut [u8], old: &[u8]) -> Head
     splice_logical(rec, old, h, span, t.removed(i))
 }
 
+// The index of what backspace deletes: the character before the cursor, at the left edge the one under it. (The Rust calls `delete_char` there; here only the
+// index differs.)
+fn backspace_index(col: usize, i: usize) -> usize
+    requires { ⌜ (0 < col → 1 ≤ i) ⌝ }
+    ensures { λ k. ⌜ k ≡ (if eqb col 0 then i else i - 1) ⌝ }
+{
+    if 0 < col {
+        return i - 1;
+    }
+    i
+}
+
 pub fn backspace(rec: &mut [u8], old: &[u8]) -> Head
     requires { ⌜ Copied (now rec) (now old) ⌝ }
     ensures { λ g. ⌜ Leaves (apply Backspace (screenOf (now (old .entry)))) (now (rec .entry)) (now (rec .exit)) g ⌝ }
 {
     let h = head::read_head(old);
-    if h.cursor.col == 0 {
-        return delete_char(rec, old);
-    }
     let span = span_at(old, h, h.cursor.row);
     let t = content_and_cursor(old, h, span);
-    let i = t.index - 1;
+    let i = backspace_index(h.cursor.col, t.index);
+    if i >= t.len {
+        return h;
+    }
     splice_logical(rec, old, h, span, t.removed(i))
 }
 

@@ -4,6 +4,7 @@ pub mod RowScroll
 pub mod PadLaws
 pub mod Trim
 pub mod Validity
+pub mod Conditions
 pub mod ValidLaws
 pub mod Keep
 pub mod TouchedLaws

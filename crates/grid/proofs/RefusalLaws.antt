@@ -5,22 +5,24 @@ use mathlib.Core.Path.{_≡_, refl, sym, _∙_}
 use mathlib.Core.Bool.{Bool, true, false, not, _&&_}
 use mathlib.Core.List.{List, [], _∷_}
 use native.Mathlib.Omega.{arith}
-use mathlib.Core.Logic.{_↔_, _≢_, ⊎-elim}
+use mathlib.Core.Logic.{_≢_, ⊎-elim}
 use lib.Dec.{eqb}
 use lib.ListN.{length}
 use borrow.Author.Tests.{not-true, not-false, eq-eqb, ne-eqb, eqb-true, eqb-false}
 use Rattle.bytes.specs.Choice.{if_then_else_}
 use Rattle.bytes.specs.Answer.{refused}
 use Rattle.bytes.specs.Refusals.{order, placeIn, firstOf, allPass, refusedWith}
-use Rattle.bytes.proofs.Bools.{and-left, and-right, and-false, left-false, and-cases, fails}
+use Rattle.bytes.proofs.Bools.{and-left, and-right, and-false, left-false, and-cases}
 use Rattle.bytes.proofs.Found.{First, Fails, none-first, ordered, refused-none, none-fails}
 use Rattle.bytes.proofs.Found.Fails.{here, there}
 use Rattle.bytes.proofs.Found.First.{now, later}
 use Rattle.grid.specs.Layout.{SIZE}
 use Rattle.grid.specs.Record.{validb}
+use Rattle.grid.specs.Conditions.{ValidRecord}
 use Rattle.grid.specs.Facts.{Valid}
 use Rattle.grid.specs.Refusals.{recordTests}
-use Rattle.grid.proofs.Validity.{valid-facts, facts-valid}
+use Rattle.grid.proofs.Validity.{valid-facts}
+use Rattle.grid.proofs.Conditions.{not-valid}
 
 -- t is what `valid` has answered
 module _ (l : List ℕ) (lengths : Bool) where
@@ -82,12 +84,9 @@ module _ (lengths : Bool) (l : List ℕ) (n : ℕ) (is : n ≡ refusedWith (firs
   pub lengths-known : lengths ≡ true
   lengths-known = taken lengths l (sym is ∙ zero) .lengths-taken
 
-pub not-valid : (l : List ℕ) → (¬ Valid l) ↔ (validb l ≡ false)
-not-valid l = fails (Valid l) (validb l) (valid-facts l) (facts-valid l)
-
 -- ---- the conditions behind the tests: C is what a call's conditions say of them
 
-module _ (C : ℕ → Type 0) (l : List ℕ) (lengths : Bool) (size : length l ≢ SIZE → C 1) (other : lengths ≡ false → C 1) (layout : ¬ Valid l → C 2) where
+module _ (C : ℕ → Type 0) (l : List ℕ) (lengths : Bool) (size : length l ≢ SIZE → C 1) (other : lengths ≡ false → C 1) (layout : ¬ ValidRecord l → C 2) where
   pub record-sound : (k : ℕ) → First (recordTests lengths l) k → C k
   unfolding recordTests
   record-sound k (now e) = ⊎-elim (λ n. size (eqb-false _ _ n)) other (and-cases (eqb (length l) SIZE) lengths e)
@@ -103,7 +102,7 @@ module _ (l : List ℕ) (lengths : Bool) where
   unfolding recordTests
   other-fails e = here (and-false (eqb (length l) SIZE) lengths e)
 
-  pub layout-fails : ¬ Valid l → Fails (recordTests lengths l) 2
+  pub layout-fails : ¬ ValidRecord l → Fails (recordTests lengths l) 2
   unfolding recordTests
   layout-fails n = there (here (not-valid l .0 n))
 

@@ -65,9 +65,6 @@ module _ (l m₁ m₂ m₃ : List ℕ) (e : ℕ) (len : length l ≡ SIZE) (low 
   n₂ : length m₂ ≡ SIZE
   n₂ = ap length e₂ ∙ length-write m₁ ATTRS _ ∙ n₁
 
-  n₃ : length m₃ ≡ SIZE
-  n₃ = ap length e₃ ∙ length-write m₂ FLAGS _ ∙ n₂
-
   k₁ : length s₁ ≡ 80 * (e - 1)
   unfolding s₁
   k₁ = length-window l (CHARS + 80) (80 * (e - 1)) (omega arith)

@@ -5,17 +5,17 @@ use Prim.Native.Nat.{ℕ, _/_, _%_, _≤_, _<_}
 use mathlib.Core.Path.{_≡_}
 use mathlib.Core.Bool.{true}
 use mathlib.Core.List.{List}
-use mathlib.Core.Logic.{_⊎_}
 use lib.ListN.{length, getD, take, drop}
 use Rattle.grid.specs.Layout.{SIZE, VERSION, MASKS, SERIALS}
 use Rattle.grid.specs.Screen.{Row, Screen, State, printable, editable, validRow, validScreen}
 use Rattle.bytes.specs.Test.{every, zerob}
+use Rattle.bytes.specs.Width.{isWidth}
 use Rattle.grid.specs.Record.{touchedOf, screenOf}
 use Rattle.grid.specs.declared.head.Head.{Head}
 
 -- what `validHead` says
 pub record HeadFacts (h : Head) : Type 0 where
-  pub widths : (h .width ≡ 40) ⊎ (h .width ≡ 80)
+  pub widths : isWidth (h .width)
   pub width-from : 40 ≤ h .width
   pub width-to : h .width ≤ 80
   pub insert : h .insert ≤ 1

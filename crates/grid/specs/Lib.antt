@@ -2,6 +2,7 @@
 pub mod Layout
 pub mod Screen
 pub mod Record
+pub mod Conditions
 pub mod Facts
 pub mod Counted
 pub mod Refusals

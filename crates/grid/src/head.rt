@@ -108,22 +108,16 @@ pub fn editable_rows(keys: u8) -> usize
     if keys == 1 { 24 } else { 25 }
 }
 
-fn wide(x: u8) -> usize
-    ensures { λ r. ⌜ r ≡ x ⌝ }
-{
-    x as usize
-}
-
 // The head whose first byte stands at index at.
 pub fn head_at(src: &[u8], at: usize) -> Head
     requires { ⌜ at + 6 ≤ length (now src) ⌝ }
     ensures { λ h. ⌜ h ≡ headAt (now (src .entry)) at ⌝ }
 {
     Head {
-        width: wide(src[at]),
+        width: number::wide(src[at]),
         cursor: Cursor {
-            row: wide(src[at + 1]),
-            col: wide(src[at + 2]),
+            row: number::wide(src[at + 1]),
+            col: number::wide(src[at + 2]),
         },
         insert: src[at + 3],
         keys: src[at + 4],

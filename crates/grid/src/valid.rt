@@ -16,12 +16,12 @@ use bytes::zero;
 use values::attr::Attr;
 ghost use mathlib.Core.Path.{_≡_};
 ghost use Prim.Native.Nat.{_+_, _≤_, _<_};
-ghost use mathlib.Core.Logic.{_⊎_};
 ghost use lib.ListN.{length};
 ghost use Rattle.bytes.specs.Choice.{if_then_else_};
 ghost use Rattle.grid.specs.Layout.{SIZE};
 ghost use Rattle.grid.specs.Screen.{printable, validAttr, validHead, validRow};
 ghost use Rattle.bytes.specs.Test.{every};
+ghost use Rattle.bytes.specs.Width.{isWidth};
 ghost use Rattle.bytes.specs.Part.{window};
 ghost use Rattle.grid.specs.Record.{rowOf, frontb, validb};
 ghost use Rattle.grid.specs.Counted.{Wrong};
@@ -98,7 +98,7 @@ fn narrow_row_ok(rec: &[u8], r: usize) -> bool
 }
 
 fn row_ok(rec: &[u8], r: usize, w: usize) -> bool
-    requires { ⌜ (length (now rec) ≡ SIZE) × (r < 25) × ((w ≡ 40) ⊎ (w ≡ 80)) ⌝ }
+    requires { ⌜ (length (now rec) ≡ SIZE) × (r < 25) × isWidth w ⌝ }
     ensures { λ t. ⌜ t ≡ validRow w (rowOf (now (rec .entry)) r) ⌝ }
 {
     if w == 80 {

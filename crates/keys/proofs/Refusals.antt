@@ -14,7 +14,7 @@ use Rattle.bytes.specs.Choice.{if_then_else_}
 use Rattle.bytes.specs.Answer.{refused, Written, unless, wrote}
 use Rattle.bytes.specs.Refusals.{firstOf}
 use Rattle.bytes.specs.Test.{every, zerob}
-use Rattle.bytes.specs.Width.{widthb}
+use Rattle.bytes.specs.Width.{isWidth, widthb}
 use Rattle.bytes.proofs.Bools.{and-left, and-right, and-false, left-false, and-fails, every-at, some-fails}
 use Rattle.bytes.proofs.WidthLaws.{width-cases, cases-width}
 use Rattle.bytes.proofs.PartLaws.{length-window, getD-window}
@@ -22,7 +22,7 @@ use Rattle.bytes.proofs.Found.{Fails, First, Found, found, found-none, answered
 use Rattle.bytes.proofs.Found.Fails.{here, there}
 use Rattle.bytes.proofs.Found.First.{now, later}
 use Rattle.keys.specs.Keys.{TABLE_SIZE, KEY_SIZE, MACRO_LEN, lengthAt, macroAt, validKey, tenKeys, tableb, macrosOf, lengthsOf, strip, fits, stripTests, stripping}
-use Rattle.keys.specs.Refusals.{isWidth, BadKey, StripRefused, StrippingAnswers}
+use Rattle.keys.specs.Refusals.{BadKey, StripRefused, StrippingAnswers}
 use Rattle.keys.specs.Refusals.StripRefused.{table-length, output-length, layout, width-argument, offset-argument}
 use Rattle.keys.proofs.TableLaws.{ten-at, length-ten}
 use Rattle.keys.proofs.CallLaws.{lengthsb, rangeb, fits-room, accepted, strip-ordered, length-strip}

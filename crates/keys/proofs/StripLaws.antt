@@ -93,7 +93,7 @@ module _ (macros : List (List ℕ)) (key : ℕ) where
       let done : j ≡ n = omega arith in
       rw done at e
 
-  -- ---- `put_slot`: n is what `least` has answered, and d what `digit` has
+  -- ---- `put_slot`: n is what `smaller` has answered, and d what `digit` has
 
   take-displayed : (a x : ℕ) → take a (displayed macros key x) ≡ displayed macros key (min a x)
   unfolding displayed

@@ -8,10 +8,8 @@ use mathlib.Core.Logic.{_⊎_, _≢_}
 use lib.ListN.{length, getD}
 use Rattle.bytes.specs.Answer.{refused, wrote}
 use Rattle.bytes.specs.Refusals.{Refuses}
+use Rattle.bytes.specs.Width.{isWidth}
 use Rattle.keys.specs.Keys.{macrosOf, lengthsOf, strip, stripping}
-
-abbrev pub isWidth : ℕ → Type 0
-isWidth w = (w ≡ 40) ⊎ (w ≡ 80)
 
 -- a key of the table has a length above 15, or a byte that is not in use and not 0
 abbrev pub BadKey : List ℕ → ℕ → Type 0

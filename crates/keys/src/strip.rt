@@ -2,9 +2,10 @@
 use crate::table::KEYS;
 use crate::table::Lengths;
 use crate::table::Macros;
+use bytes::compare::smaller;
 use bytes::part;
 ghost use mathlib.Core.Path.{_≡_};
-ghost use Prim.Native.Nat.{_+_, _≤_, _<_, min};
+ghost use Prim.Native.Nat.{_+_, _≤_, _<_};
 ghost use lib.ListN.{length};
 ghost use Rattle.bytes.specs.Part.{write};
 ghost use Rattle.keys.specs.Keys.{display, displayed, digit, slot, strip};
@@ -36,12 +37,6 @@ fn digit(key: usize) -> u8
     b'1' + key as u8
 }
 
-fn least(a: usize, b: usize) -> usize
-    ensures { λ m. ⌜ m ≡ min a b ⌝ }
-{
-    if a < b { a } else { b }
-}
-
 // Writes the first n bytes of a key's macro, as they are displayed, from index at of out on.
 fn put_display(out: &mut [u8], at: usize, macros: Macros, key: usize, n: usize)
     requires { ⌜ (at + n ≤ length (now out)) × Full macros × (key < 10) × (n ≤ 15) ⌝ }
@@ -59,7 +54,7 @@ fn put_slot(out: &mut [u8], at: usize, macros: Macros, lengths: Lengths, key: us
     requires { ⌜ (at + 8 ≤ length (now out)) × Full macros × (key < 10) ⌝ }
     ensures { λ _. ⌜ now (out .exit) ≡ write (now (out .entry)) at (slot macros lengths key) ⌝ }
 {
-    let n = least(6, lengths[key]);
+    let n = smaller(6, lengths[key]);
     put_display(out, at + 1, macros, key, n);
     part::fill(out, at + 1 + n, 7 - n, b' ');
     out[at] = digit(key);

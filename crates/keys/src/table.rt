@@ -1,4 +1,5 @@
 // The key table: ten times a length and fifteen bytes, of which as many are in use. Its layout is tested, and the macros are read out of it.
+use bytes::number::wide;
 use bytes::part;
 use bytes::zero;
 ghost use mathlib.Core.Path.{_≡_};
@@ -19,12 +20,6 @@ pub const TABLE_SIZE: usize = 160;
 pub type Macros = [[u8; MACRO_LEN]; KEYS];
 
 pub type Lengths = [usize; KEYS];
-
-fn wide(x: u8) -> usize
-    ensures { λ n. ⌜ n ≡ x ⌝ }
-{
-    x as usize
-}
 
 fn length_at(tab: &[u8], k: usize) -> usize
     requires { ⌜ (length (now tab) ≡ TABLE_SIZE) × (k < 10) ⌝ }

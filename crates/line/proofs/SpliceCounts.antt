@@ -1,10 +1,9 @@
 -- The rows that a text takes.
 -- Assumes nothing.
 use Prim.Native.Nat.{ℕ, _+_, _-_, _/_, _%_, _≤_, _<_, max}
-use mathlib.Core.Path.{_≡_, sym, ap, _∙_, subst}
+use mathlib.Core.Path.{_≡_, sym, ap, _∙_}
 use mathlib.Core.Bool.{Bool, true, false, _&&_}
 use native.Mathlib.Nat.{div-lt-iff-lt-mul, le-div-iff-mul-le}
-use native.Mathlib.Decide.{ℕ-discrete}
 use native.Mathlib.Omega.{arith}
 use lib.Dec.{ltb, eqb}
 use mir.Syntax.{w64}
@@ -68,22 +67,3 @@ module _ (w n i : ℕ) (low : 40 ≤ w) (fits : n ≤ MAX-LOGICAL) where
     count-full e h =
         let t : test ≡ true = rw (lt-ltb 0 n (omega arith), eq-eqb i n e, eq-eqb (n % w) 0 h) in
         counted (ceil + 1) 1 (pick test 1 0 t) (omega arith) (omega (arith, ceil-from))
-
--- what `rowsFor` is, without the code
-pub count-is : (w n i : ℕ) → 40 ≤ w → n ≤ MAX-LOGICAL → Count w n i (rowsFor w n i)
-count-is w n i low fits = none (ℕ-discrete n 0)
-  where
-    same : (k : ℕ) → Count w n i k → Count w n i (rowsFor w n i)
-    same k x = subst (Count w n i) (x .is) x
-
-    part : Dec (n % w ≡ 0) → i ≡ n → (n ≡ 0 → ⊥) → Count w n i (rowsFor w n i)
-    part (yes z) e ne = same _ (count-full w n i low fits ne e z)
-    part (no z) e ne = same _ (count-part w n i low fits ne e z)
-
-    inside : Dec (i ≡ n) → (n ≡ 0 → ⊥) → Count w n i (rowsFor w n i)
-    inside (yes e) ne = part (ℕ-discrete (n % w) 0) e ne
-    inside (no x) ne = same _ (count-inside w n i low fits ne x)
-
-    none : Dec (n ≡ 0) → Count w n i (rowsFor w n i)
-    none (yes e) = same _ (count-none w n i low fits e)
-    none (no x) = inside (ℕ-discrete i n) x

@@ -1,10 +1,10 @@
 // The editing content: the characters of the line under the cursor as it is edited, and the cursor's index in them.
 use crate::chars::joined_rows;
-use crate::num::larger;
-use crate::num::smaller;
 use crate::span::Span;
 use crate::text::MAX_LOGICAL;
 use crate::text::Text;
+use bytes::compare::larger;
+use bytes::compare::smaller;
 use grid::head::Head;
 use grid::row;
 ghost use mathlib.Core.Path.{_≡_};

@@ -8,7 +8,6 @@
 mod chars;
 pub mod content;
 pub mod head;
-mod num;
 mod plan;
 pub mod reading;
 pub mod span;

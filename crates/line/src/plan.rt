@@ -1,8 +1,8 @@
 // A plan of source rows: which row of the old screen, of a line, or blank, each row of the new screen is. It stands for the Rust's lists of rows
 // before and after a line (`to_vec`, `pop`, `remove(0)`): the rows are written one by one from a copy of the record.
-use crate::num::minus;
-use crate::num::smaller;
 use crate::span::Span;
+use bytes::compare::minus;
+use bytes::compare::smaller;
 use grid::row;
 use values::attr::Attr;
 ghost use mathlib.Core.Path.{_≡_};

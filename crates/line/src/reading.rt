@@ -1,7 +1,7 @@
 // Reading: the text of a line, and how it is handed out.
 use crate::chars::joined_rows;
-use crate::num::smaller;
 use crate::text::MAX_LOGICAL;
+use bytes::compare::smaller;
 use bytes::part;
 use grid::head::Head;
 use grid::row;

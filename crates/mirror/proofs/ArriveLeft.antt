@@ -18,8 +18,9 @@ use Rattle.bytes.specs.Test.{every, isByte}
 use Rattle.bytes.proofs.Bools.{and-both, and-left, and-right, cases, either, every-drop}
 use Rattle.bytes.proofs.Found.{ordered, none-fails}
 use Rattle.grid.specs.Record.{serialOf, stampOf, readState, stateBytes}
-use Rattle.grid.specs.Facts.{Valid}
+use Rattle.grid.specs.Conditions.{ValidRecord}
 use Rattle.grid.proofs.Bytes.{bytes-back}
+use Rattle.grid.proofs.Conditions.{conditions-record}
 use Rattle.report.specs.Layout.{REPORT-SERIAL}
 use Rattle.report.specs.Report.{readFront, readReport, reportb}
 use Rattle.mirror.specs.Layout.{MIRROR-SIZE, NEWEST, RECORD}
@@ -109,8 +110,8 @@ unfolding every isByte
 all-bytes [] f = refl
 all-bytes (x ∷ l) f = and-both _ _ (lt-ltb x 256 (f zero .fits)) (all-bytes l (λ i. f (suc i)))
 
-pub record-kept : (l : List ℕ) → Valid (drop RECORD l) → every isByte l ≡ true → stateBytes (readState (drop RECORD l)) ≡ drop RECORD l
-record-kept l v q = bytes-back (drop RECORD l) v (every-drop isByte RECORD l q)
+pub record-kept : (l : List ℕ) → ValidRecord (drop RECORD l) → every isByte l ≡ true → stateBytes (readState (drop RECORD l)) ≡ drop RECORD l
+record-kept l v q = bytes-back (drop RECORD l) (conditions-record _ v) (every-drop isByte RECORD l q)
 
 -- x and s are the serials n and s as they are read, y the larger, k the answer
 module _ (l b : List ℕ) (v : Ready l b) (x s y k : ℕ) (ex : x ≡ fourAt l NEWEST) (es : s ≡ fourAt b REPORT-SERIAL) (ey : y ≡ max x s) where

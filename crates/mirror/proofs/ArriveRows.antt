@@ -19,6 +19,7 @@ use Rattle.grid.specs.Facts.{HeadFits}
 use Rattle.grid.proofs.RowLaws.{length-rows, and-then}
 use Rattle.grid.proofs.Record.{left-bytes}
 use Rattle.grid.proofs.Validity.{head-fits}
+use Rattle.grid.proofs.Conditions.{conditions-head}
 use Rattle.report.specs.Layout.{ROW-SIZE}
 use Rattle.report.specs.declared.front.Front.{Front}
 use Rattle.report.specs.Kind.{rowsAt}
@@ -136,7 +137,7 @@ module _ (b : List ℕ) (v : ValidReport b) where
         ∙ ap (λ (i : ℕ). i + ROW-SIZE * ones (f .mask)) (sym e)
 
     pub front-known : HeadFits (f .head)
-    front-known = rw ef (unfold readFront in head-fits _ (v .head))
+    front-known = rw ef (unfold readFront in head-fits _ (conditions-head _ (v .head)))
 
 pub show-done : (b l m n : List ℕ) (f : Front) (from : ℕ) → f ≡ readFront b → from ≡ rowsAt (f .kind)
     → Becomes l m (merge (bits 25 (f .mask)) (carriedRows (ones (f .mask)) (drop from b)) (rowsOf l))

@@ -8,7 +8,7 @@ use lib.ListN.{drop}
 use borrow.Author.Tests.{leb-true, eqb-true, le-leb}
 use Rattle.grid.specs.Record.{validb}
 use Rattle.bytes.proofs.Bools.{and-left, and-right, tests}
-use Rattle.grid.proofs.Validity.{valid-facts, facts-valid}
+use Rattle.grid.proofs.Conditions.{record-facts, facts-record}
 use Rattle.mirror.specs.Layout.{RECORD}
 use Rattle.mirror.specs.Mirror.{mirrorFrontb, shownb, mirrorb}
 use Rattle.mirror.specs.Refusals.{ValidMirror}
@@ -21,7 +21,7 @@ mirror-facts l e =
       length-high = eqb-true _ _ (search (and-left, and-right) depth 8);
       length-low = eqb-true _ _ (search (and-left, and-right) depth 8);
       version = eqb-true _ _ (search (and-left, and-right) depth 8);
-      record-valid = valid-facts (drop RECORD l) (search (and-left, and-right) depth 8);
+      record-valid = record-facts (drop RECORD l) (search (and-left, and-right) depth 8);
       untouched = eqb-true _ _ (search (and-left, and-right) depth 8);
       behind = leb-true _ _ (search (and-left, and-right) depth 8);
     }
@@ -33,7 +33,7 @@ facts-mirror l v =
     let a = v .length-high in
     let b = v .length-low in
     let o = v .version in
-    let c : validb (drop RECORD l) ≡ true = facts-valid (drop RECORD l) (v .record-valid) in
+    let c : validb (drop RECORD l) ≡ true = facts-record (drop RECORD l) (v .record-valid) in
     let t = v .untouched in
     let e = le-leb _ _ (v .behind) in
     search tests depth 8

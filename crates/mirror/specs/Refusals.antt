@@ -11,7 +11,7 @@ use Rattle.bytes.specs.Answer.{refused}
 use Rattle.bytes.specs.Number.{fourAt}
 use Rattle.bytes.specs.Refusals.{Refuses}
 use Rattle.grid.specs.Record.{headAt, headOf, serialOf, touchedOf}
-use Rattle.grid.specs.Facts.{Valid}
+use Rattle.grid.specs.Conditions.{ValidRecord}
 use Rattle.report.specs.Layout.{KIND, REPORT-SERIAL, MASK, HEAD, STEP, ALL-ROWS}
 use Rattle.report.specs.Report.{readReport}
 use Rattle.report.specs.Refusals.{ValidReport}
@@ -25,7 +25,7 @@ pub record ValidMirror (l : List ℕ) : Type 0 where
   pub length-high : getD l 0 0 ≡ MIRROR-SIZE / 256
   pub length-low : getD l 1 0 ≡ MIRROR-SIZE % 256
   pub version : getD l 2 0 ≡ MIRROR-VERSION
-  pub record-valid : Valid (drop RECORD l)
+  pub record-valid : ValidRecord (drop RECORD l)
   pub untouched : touchedOf (drop RECORD l) ≡ 0
   pub behind : serialOf (drop RECORD l) ≤ fourAt l NEWEST
 

@@ -4,6 +4,7 @@ use crate::layout::NEWEST;
 use crate::layout::RECORD;
 use crate::mirror;
 use bytes::answer::REFUSED;
+use bytes::compare::larger;
 use bytes::number;
 use grid::head;
 use grid::layout::SCREEN_ROWS;
@@ -41,10 +42,11 @@ pub enum Arrived {
     Applied,
 }
 
-fn larger(a: u32, b: u32) -> u32
+// The later of two serials.
+fn later(a: u32, b: u32) -> u32
     ensures { λ m. ⌜ m ≡ max a b ⌝ }
 {
-    if a < b { b } else { a }
+    larger(a as usize, b as usize) as u32
 }
 
 // 1 if level, else 0.
@@ -181,7 +183,7 @@ fn note(mir: &mut [u8], report: &[u8]) -> u32
 {
     let m = shown_serial(mir);
     let s = number::four_at(report, REPORT_SERIAL);
-    let n = larger(number::four_at(mir, NEWEST), s);
+    let n = later(number::four_at(mir, NEWEST), s);
     mirror::write_front(mir, n);
     level(m, n)
 }
@@ -191,7 +193,7 @@ fn apply(mir: &mut [u8], report: &[u8]) -> u32
     ensures { λ n. ⌜ Writes (leaving (applied (readReport (now (report .entry))) (readMirror (now (mir .entry))))) n (now (mir .exit)) ⌝ }
 {
     let s = number::four_at(report, REPORT_SERIAL);
-    let n = larger(number::four_at(mir, NEWEST), s);
+    let n = later(number::four_at(mir, NEWEST), s);
     show(&mut mir[RECORD..], report);
     mirror::write_front(mir, n);
     level(s, n)

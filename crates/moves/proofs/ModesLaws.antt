@@ -1,6 +1,6 @@
 -- `modes`: insert, attribute, key line, and the calls that blank the screen. h is the head of the record l.
 -- Assumes nothing.
-use Prim.Native.Nat.{ℕ}
+use Prim.Native.Nat.{ℕ, _≤_}
 use mathlib.Core.Path.{_≡_, refl, ap, _∙_}
 use mathlib.Core.List.{List, [], _++_, append-nil}
 use native.Mathlib.Omega.{arith}
@@ -13,9 +13,14 @@ use Rattle.values.specs.declared.attr.Attr.{Attr}
 use Rattle.values.specs.declared.cursor.Cursor.{Cursor}
 use Rattle.grid.specs.declared.head.Head.{Head}
 use Rattle.grid.proofs.RowLaws.{length-rows}
+use Rattle.grid.proofs.Validity.{editable-to}
 use Rattle.line.specs.Given.{Known}
 use Rattle.editor.specs.Modes.{clear, setWidth, setInsert, setAttr, setKeysOn}
 use Rattle.editor.specs.Call.{Clear, SetWidth, SetInsert, SetAttr, SetKeysOn, rule, apply}
+
+-- the editable rows are among the 25
+pub rows-below : (e k : ℕ) → e ≡ editable k → e ≤ 25
+rows-below e k q = omega (arith, editable-to k)
 
 module _ (l : List ℕ) (h : Head) (p : Known l h) where
   pub insert-set : (v : ℕ) (g : Head) → g ≡ withInsert h v → Moves (apply (SetInsert v) (screenOf l)) l g

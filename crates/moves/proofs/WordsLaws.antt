@@ -3,7 +3,7 @@
 -- Assumes nothing.
 use Prim.Native.Nat.{ℕ, zero, suc, _+_, _-_, _*_, _/_, _%_, _≤_, _<_, min}
 use mathlib.Core.Path.{_≡_, refl, sym, ap, _∙_}
-use mathlib.Core.Bool.{Bool, true, false, not, _&&_}
+use mathlib.Core.Bool.{Bool, true, false, not, _&&_, or-true, or-false}
 use mathlib.Core.List.{List}
 use native.Mathlib.Nat.{mul-le-mul-right, div-lt-iff-lt-mul, mod-lt, min-eq-left, min-eq-right}
 use native.Mathlib.Omega.{arith}
@@ -34,19 +34,19 @@ between-no c lo hi h = rw (lt-leb lo c h)
 pub between-yes : (c lo hi : ℕ) → lo ≤ c → leb c hi ≡ (leb lo c && leb c hi)
 between-yes c lo hi h = rw (le-leb lo c h)
 
-module _ (c : ℕ) (t : Bool) (is : t ≡ (leb 48 c && leb c 57)) where
-  pub word-digit : t ≡ true → true ≡ isWord c
+module _ (c : ℕ) (t : Bool) (is : t ≡ (leb 65 c && leb c 90)) where
+  pub word-capital : t ≡ true → true ≡ isWord c
   unfolding isWord
-  word-digit e = sym (rw (sym is ∙ e))
+  word-capital e = sym (rw (sym is ∙ e) (or-true (leb 48 c && leb c 57)))
 
-  module _ (u : Bool) (iu : u ≡ (leb 65 c && leb c 90)) where
-    pub word-capital : t ≡ false → u ≡ true → true ≡ isWord c
+  module _ (u : Bool) (iu : u ≡ (leb 97 c && leb c 122)) where
+    pub word-small : t ≡ false → u ≡ true → true ≡ isWord c
     unfolding isWord
-    word-capital e f = sym (rw (sym is ∙ e, sym iu ∙ f))
+    word-small e f = sym (rw (sym is ∙ e, sym iu ∙ f) (or-true (leb 48 c && leb c 57)))
 
-    pub word-small : (v : Bool) → v ≡ (leb 97 c && leb c 122) → t ≡ false → u ≡ false → v ≡ isWord c
+    pub word-digit : (v : Bool) → v ≡ (leb 48 c && leb c 57) → t ≡ false → u ≡ false → v ≡ isWord c
     unfolding isWord
-    word-small v iv e f = rw (sym is ∙ e, sym iu ∙ f) iv
+    word-digit v iv e f = rw (sym is ∙ e, sym iu ∙ f) (iv ∙ sym (or-false _))
 
 -- ---- cells
 

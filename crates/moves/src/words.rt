@@ -26,13 +26,13 @@ fn between(c: u8, lo: u8, hi: u8) -> bool
 fn is_word(c: u8) -> bool
     ensures { λ t. ⌜ t ≡ isWord c ⌝ }
 {
-    if between(c, b'0', b'9') {
-        return true;
-    }
     if between(c, b'A', b'Z') {
         return true;
     }
-    between(c, b'a', b'z')
+    if between(c, b'a', b'z') {
+        return true;
+    }
+    between(c, b'0', b'9')
 }
 
 // The cell under the cursor.

@@ -2,10 +2,15 @@
 -- Assumes nothing.
 use mathlib.Core.Path.{_≡_, refl}
 use mathlib.Core.Bool.{true}
+use lib.Count.{ones, onesIn}
 use Rattle.bytes.specs.Choice.{if_then_else_}
 use Rattle.values.specs.Attr.{attrOf, byteOf}
-use Rattle.grid.specs.Screen.{withRows, moveTo, putCell, flagRow, setFlag, scrolled, noRow, rowAt, editable, blankRow, lineRow, spaced, padded, newHead, newScreen, newState, trim, trimBy, isSpace, isEmpty, printable, same, sameRow, differing, number, touchedRows}
-use Rattle.bytes.specs.Test.{every}
+use Rattle.grid.specs.Screen.{validAttr, validHead, validRow, validScreen, withRows, moveTo, putCell, flagRow, setFlag, scrolled, noRow, rowAt, editable, blankRow, lineRow, spaced, padded, newHead, newScreen, newState, trim, trimBy, isSpace, isEmpty, printable, same, sameRow, differing, number, touchedRows}
+use Rattle.bytes.specs.Test.{every, zerob}
+use Rattle.bytes.specs.Part.{window}
+use Rattle.bytes.specs.Table.{tabulate}
+use Rattle.bytes.specs.Refusals.{firstOf}
+use Rattle.grid.specs.Record.{rowOf, rowFrom, rowsOf, headAt, headOf, serialOf, touchedOf, stampOf, readState, frontBytes, flagBytes, blocks, rowsBytes, stateBytes, frontb as recordFrontb, validb}
 use Rattle.values.specs.Cursor.{left, clamp}
 use Rattle.line.specs.Line.{flagged, spanStart, spanEnd, startOf, endOf, joined, rowText, wholeRows, reading, lineText, index, reach, content}
 use Rattle.line.specs.Splice.{rowsFor, lineRows, splicedRows, splice}
@@ -16,12 +21,12 @@ use Rattle.editor.specs.Modes.{setInsert}
 use Rattle.editor.specs.Call.{rule, apply, step}
 use Rattle.editor.specs.Lists.{steps}
 use Rattle.report.specs.Carried.{bits, carry, merge}
-use Rattle.report.specs.Kind.{maskOf}
-use Rattle.report.specs.Report.{frontOf, reportOf}
-use Rattle.mirror.specs.Mirror.{newMirror, dueAt, due, shown, noted, applied, taken}
-use Rattle.mirror.specs.Count.{shownAfter, counted, tally}
+use Rattle.report.specs.Kind.{kindByte, kindOf, maskOf, maskFits, rowsAt}
+use Rattle.report.specs.Report.{frontOf, reportOf, reportFront, rowBytes, reportBytes, reported, readFront, rowIn, carriedRows, readReport, frontb, reportb}
+use Rattle.mirror.specs.Mirror.{newMirror, dueAt, due, widthWithoutRows, shown, noted, applied, mirrorFront, mirrorBytes, readMirror, mirrorFrontb, shownb, mirrorb, arrivalTests, arrived, levelOf, leaving, arrivedOutcome, arrival}
+use Rattle.mirror.specs.Count.{heardIn, shownAfter, counted, tally}
 use Rattle.promises.specs.Examples.{cursor, touched, flag, text, cell, both, next, examples, stateAfter, reports, mirrored, counts, holds}
 
 pub checked : every holds examples ≡ true
-unfolding examples holds stateAfter reports mirrored counts cursor touched flag text cell both next if_then_else_ attrOf byteOf withRows moveTo putCell flagRow setFlag scrolled noRow rowAt editable blankRow lineRow spaced padded newHead newScreen newState trim trimBy isSpace isEmpty printable every same sameRow differing number touchedRows left clamp flagged spanStart spanEnd startOf endOf joined rowText wholeRows reading lineText index reach content rowsFor lineRows splicedRows splice scroll nextRow rowIsBlank wrapped newline writeCell putChar printByte print typeAt typeChar deleteChar backspace isWord wordAt place cellOf pastWord pastGap wordRight setInsert rule apply step steps bits carry maskOf frontOf reportOf newMirror dueAt due merge shown noted applied shownAfter counted tally taken
+unfolding examples holds stateAfter reports mirrored counts cursor touched flag text cell both next if_then_else_ attrOf byteOf withRows moveTo putCell flagRow setFlag scrolled noRow rowAt editable blankRow lineRow spaced padded newHead newScreen newState trim trimBy isSpace isEmpty printable every same sameRow differing number touchedRows left clamp flagged spanStart spanEnd startOf endOf joined rowText wholeRows reading lineText index reach content rowsFor lineRows splicedRows splice scroll nextRow rowIsBlank wrapped newline writeCell putChar printByte print typeAt typeChar deleteChar backspace isWord wordAt place cellOf pastWord pastGap wordRight setInsert rule apply step steps bits carry maskOf frontOf reportOf newMirror dueAt due merge shown noted applied heardIn shownAfter counted tally zerob window tabulate firstOf validAttr validHead validRow validScreen rowOf rowFrom rowsOf headAt headOf serialOf touchedOf stampOf readState frontBytes flagBytes blocks rowsBytes stateBytes recordFrontb validb kindByte kindOf maskFits rowsAt reportFront rowBytes reportBytes reported readFront rowIn carriedRows readReport frontb reportb widthWithoutRows mirrorFront mirrorBytes readMirror mirrorFrontb shownb mirrorb arrivalTests arrived levelOf leaving arrivedOutcome arrival ones onesIn
 checked = refl

@@ -1,7 +1,7 @@
 -- THE THEOREM: every promise of `specs/Promises.antt` is kept.
 -- Assumes nothing.
 use Rattle.grid.proofs.Bytes.{state-valid, bytes-back}
-use Rattle.grid.proofs.Validity.{valid-facts}
+use Rattle.grid.proofs.Conditions.{conditions-record, record-facts}
 use Rattle.editor.proofs.Lists.{new-facts, valid-kept}
 use Rattle.editor.proofs.Refusals.{changing-answers, creating-answers, asking-answers, texting-answers}
 use Rattle.report.proofs.Conditions.{facts-report}
@@ -26,9 +26,9 @@ promises =
       new-mirror = creating-mirror-answers;
       arrivals = arrival-answers;
       strip-call = stripping-answers;
-      new-valid = λ w. valid-facts _ (state-valid _ (new-facts w));
+      new-valid = λ w. record-facts _ (state-valid _ (new-facts w));
       kept-valid = λ c l b v e. valid-kept c l b v;
-      record-whole = λ l b v. bytes-back l v b;
+      record-whole = λ l b v. bytes-back l (conditions-record l v) b;
       report-whole = λ b q v. report-bytes-back b (facts-report b v) q;
       mirror-whole = λ m q v. mirror-bytes-back m (facts-mirror m v) q;
       demand-3 = demand-3;

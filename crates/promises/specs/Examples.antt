@@ -1,23 +1,29 @@
--- Document 01, "Examples": the one list of those marked *, on values. `proofs/Checked.antt` has that each holds, by computing it.
+-- Document 01, "Examples": the one list of those marked *. Those of the screen are on values, that of the mirror is on the bytes that arrive and that
+-- `arrival` leaves. `proofs/Checked.antt` has that each holds, by computing it.
 -- Assumes nothing.
 use Prim.Native.Nat.{ℕ}
 use mathlib.Core.Bool.{Bool, _&&_}
 use mathlib.Core.List.{List, [], _∷_, _++_}
-use lib.ListN.{getD, take, replicate}
+use lib.Dec.{eqb}
+use lib.ListN.{getD, take, drop, replicate}
+use Rattle.bytes.specs.Choice.{if_then_else_}
+use Rattle.bytes.specs.Number.{fourAt}
 use Rattle.grid.specs.Screen.{State, rowAt, newState, trim, same}
+use Rattle.grid.specs.Record.{stateBytes, serialOf}
 use Rattle.line.specs.Line.{rowText}
 use Rattle.editor.specs.Call.{Call, step}
 use Rattle.editor.specs.Lists.{steps}
 use Rattle.editor.specs.Call.Call.{PrintBytes, TypeChar, Backspace, MoveLeft, WordRight, SetCursor, SetInsert}
 use Rattle.report.specs.declared.kind.Kind.the-variants.{Step}
-use Rattle.report.specs.Report.{Report, reportOf}
-use Rattle.mirror.specs.Mirror.{Mirror, newMirror, taken}
-use Rattle.mirror.specs.Count.{Heard, tally}
+use Rattle.report.specs.Report.{reported}
+use Rattle.mirror.specs.Layout.{NEWEST, RECORD}
+use Rattle.mirror.specs.Mirror.{newMirror, mirrorBytes, arrival}
+use Rattle.mirror.specs.Count.{Heard, heardIn, tally}
 
 pub data Example : Type 0 where
   -- on a new screen of the width, after the calls, what is looked at is this
   after : ℕ → List Call → (State → List ℕ) → List ℕ → Example
-  -- of these calls on a new screen, the steps of these serials arrive at a new mirror, and then (m, n) is this, each time
+  -- of these calls on a new screen, the steps of these serials arrive at a new mirror, and then m, n and the answer are this, each time
   arrive : List Call → List ℕ → List ℕ → Example
 
 -- ---- what is looked at
@@ -70,8 +76,8 @@ examples =
     ∷ after 80 (SetCursor 23 79 ∷ PrintBytes (90 ∷ []) ∷ []) (both (cell 22 79) (both (flag 22) cursor)) (90 ∷ 1 ∷ 23 ∷ 0 ∷ [])
     -- blank screen, `word_right`: (23,79)
     ∷ after 80 (WordRight ∷ []) cursor (23 ∷ 79 ∷ [])
-    -- steps 1, 3, 2, 3 arrive: (m, n) is (1,1), (1,3), (2,3), (3,3)
-    ∷ arrive (TypeChar A ∷ PrintBytes (13 ∷ 66 ∷ []) ∷ Backspace ∷ []) (1 ∷ 3 ∷ 2 ∷ 3 ∷ []) (1 ∷ 1 ∷ 1 ∷ 3 ∷ 2 ∷ 3 ∷ 3 ∷ 3 ∷ [])
+    -- steps 1, 3, 2, 3 arrive: (m, n) is (1,1), (1,3), (2,3), (3,3); and the answer is 1 if that is level, else 0
+    ∷ arrive (TypeChar A ∷ PrintBytes (13 ∷ 66 ∷ []) ∷ Backspace ∷ []) (1 ∷ 3 ∷ 2 ∷ 3 ∷ []) (1 ∷ 1 ∷ 1 ∷ 1 ∷ 3 ∷ 0 ∷ 2 ∷ 3 ∷ 0 ∷ 3 ∷ 3 ∷ 1 ∷ [])
     ∷ []
 
 -- ---- the check
@@ -80,24 +86,26 @@ examples =
 unfoldable pub stateAfter : List Call → ℕ → State
 stateAfter cs k = steps (take k cs) (newState 80)
 
-unfoldable pub reports : List Call → List ℕ → List Report
+-- the bytes of the step reports of these serials
+unfoldable pub reports : List Call → List ℕ → List (List ℕ)
 reports cs [] = []
-reports cs (k ∷ ks) = reportOf Step (stateAfter cs k) ∷ reports cs ks
+reports cs (k ∷ ks) = reported Step (stateBytes (stateAfter cs k)) ∷ reports cs ks
 
--- m and n as the mirror has them, after each arrival: `taken` is what an arrival does, on values (`arrival-taken` is the law)
-unfoldable pub mirrored : Mirror → List Report → List ℕ
-mirrored μ [] = []
-mirrored μ (r ∷ rs) =
-    let now = taken r μ in
-    now .state .stamp .serial ∷ now .newest ∷ mirrored now rs
+-- after each arrival m and n, as they stand in the mirror's bytes, and what it answered
+unfoldable pub mirrored : List ℕ → List (List ℕ) → List ℕ
+mirrored l [] = []
+mirrored l (b ∷ bs) =
+    let o = arrival l b in
+    serialOf (drop RECORD (o .bytes)) ∷ fourAt (o .bytes) NEWEST ∷ o .number ∷ mirrored (o .bytes) bs
 
--- m and n as they are counted, after each arrival: hs are the kinds and serials of those before
-unfoldable pub counts : List Heard → List Report → List ℕ
+-- the same as it is counted: hs are the kinds and serials of those before, and it answers 1 if m = n
+unfoldable pub counts : List Heard → List (List ℕ) → List ℕ
 counts hs [] = []
-counts hs (r ∷ rs) =
-    let now = hs ++ (record { kind = r .front .kind; serial = r .front .serial } ∷ []) in
-    tally now .m ∷ tally now .n ∷ counts now rs
+counts hs (b ∷ bs) =
+    let now = hs ++ (heardIn b ∷ []) in
+    let t = tally now in
+    t .m ∷ t .n ∷ (if eqb (t .m) (t .n) then 1 else 0) ∷ counts now bs
 
 unfoldable pub holds : Example → Bool
 holds (after w cs look expected) = same (look (steps cs (newState w))) expected
-holds (arrive cs serials expected) = same (mirrored (newMirror 80) (reports cs serials)) expected && same (counts [] (reports cs serials)) expected
+holds (arrive cs serials expected) = same (mirrored (mirrorBytes (newMirror 80)) (reports cs serials)) expected && same (counts [] (reports cs serials)) expected

@@ -9,7 +9,7 @@ use mathlib.Core.Bool.{true, false}
 use mathlib.Core.List.{List}
 use Rattle.bytes.specs.Answer.{isRefusal}
 use Rattle.bytes.specs.Test.{every, isByte}
-use Rattle.grid.specs.Facts.{Valid}
+use Rattle.grid.specs.Conditions.{ValidRecord}
 use Rattle.grid.specs.Screen.{newState}
 use Rattle.grid.specs.Record.{stateBytes, readState}
 use Rattle.editor.specs.Call.{Call}
@@ -35,21 +35,21 @@ pub record Promises : Type 0 where
   pub reading-calls : (q : Query) (l : List ℕ) → every isByte l ≡ true → AskingAnswers q l
   -- and with the text calls, "line output under 255, snapshot output under 2,024"
   pub text-calls : (q : TextCall) (l out : List ℕ) → TextingAnswers q l out
-  -- and with the report calls, "report output under 4,043"
+  -- and with the report calls: an output shorter than the longest report is refusal 1
   pub report-calls : (kind : Kind) (l out : List ℕ) → ReportingAnswers kind l out
-  -- and with new mirror, "mirror 4,049"
+  -- and with new mirror, of which the length alone is tested, as of new screen
   pub new-mirror : (w : ℕ) (m : List ℕ) → CreatingMirrorAnswers w m
   -- and with arrivals, "an arriving report breaks its layout", "a step report that would be applied changes the width without carrying all 25 rows"
   pub arrivals : (m b : List ℕ) → ArrivalAnswers m b
   -- and with the strip, "a bad strip width is 3; the strip output's length is then not tested"
   pub strip-call : (t : List ℕ) (offset width : ℕ) (out : List ℕ) → StrippingAnswers t offset width out
   -- "New: length, version and width set, spaces of attribute 7 inside W, current attribute 7, keys on, rest zero": that is a valid record
-  pub new-valid : (w : ℕ) → Valid (stateBytes (newState w))
+  pub new-valid : (w : ℕ) → ValidRecord (stateBytes (newState w))
   -- "Valid: cursor row below E, column below W, flags and switches 0 or 1, touched below 2^25, characters inside W 27 or at least 32, all bytes beyond W zero":
   -- an accepted call on a valid record leaves a valid record
-  pub kept-valid : (c : Call) (l : List ℕ) → every isByte l ≡ true → Valid l → isRefusal (changing c l .number) ≡ false → Valid (changing c l .rec)
+  pub kept-valid : (c : Call) (l : List ℕ) → every isByte l ≡ true → ValidRecord l → isRefusal (changing c l .number) ≡ false → ValidRecord (changing c l .rec)
   -- "Screen record": what the rules read of a valid one is all that stands in it, so from bytes to values and back nothing is lost
-  pub record-whole : (l : List ℕ) → every isByte l ≡ true → Valid l → stateBytes (readState l) ≡ l
+  pub record-whole : (l : List ℕ) → every isByte l ≡ true → ValidRecord l → stateBytes (readState l) ≡ l
   -- "Report": likewise
   pub report-whole : (b : List ℕ) → every isByte b ≡ true → ValidReport b → reportBytes (readReport b) ≡ b
   -- "Mirror": likewise

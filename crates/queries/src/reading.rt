@@ -1,5 +1,6 @@
 // The reading calls: they answer a number and change nothing.
 use bytes::answer::REFUSED;
+use bytes::number::wide;
 use grid::head;
 use grid::refusal::record_refused;
 use grid::row;
@@ -50,7 +51,7 @@ pub fn attr(rec: &[u8]) -> u32
     }
     let h = head::read_head(rec);
     let a = h.attr;
-    wide(a.byte())
+    wide(a.byte()) as u32
 }
 
 pub fn editable_rows(rec: &[u8]) -> u32
@@ -64,17 +65,11 @@ pub fn editable_rows(rec: &[u8]) -> u32
     head::editable_rows(h.keys) as u32
 }
 
-fn wide(x: u8) -> u32
-    ensures { λ r. ⌜ (r ≡ x) × (r < 256) ⌝ }
-{
-    x as u32
-}
-
 fn cell_at(rec: &[u8], r: usize, c: usize) -> u32
     requires { ⌜ (length (now rec) ≡ SIZE) × (r < 25) × (c < 80) ⌝ }
     ensures { λ n. ⌜ n ≡ cellOf (now (rec .entry)) r c ⌝ }
 {
-    wide(row::char_at(rec, r, c)) + 256 * wide(row::attr_at(rec, r, c))
+    (wide(row::char_at(rec, r, c)) + 256 * wide(row::attr_at(rec, r, c))) as u32
 }
 
 // Character + 256 × attribute, of all 25 rows whatever the keys say.
@@ -105,5 +100,5 @@ pub fn continues(rec: &[u8], r: u32) -> u32
     if r >= 25 {
         return REFUSED + 3;
     }
-    wide(row::flag_at(rec, r as usize))
+    wide(row::flag_at(rec, r as usize)) as u32
 }

@@ -1,7 +1,6 @@
-// The recorded calls, done again: which call a tag is.
-ghost use mathlib.Core.Path.{_≡_};
-ghost use lib.ListN.{length};
+// The recorded calls, done again: which call a tag is, as docs/RECORDING.md lists them.
 use crate::entry;
+use bytes::number::four_at;
 use calls::fresh;
 use calls::lines;
 use calls::modes;
@@ -10,6 +9,9 @@ use calls::print;
 use calls::tab;
 use calls::typing;
 use calls::words;
+ghost use mathlib.Core.Path.{_≡_};
+ghost use lib.ListN.{length};
+ghost use Rattle.replay.specs.Entry.{HEAD};
 
 // What no call answers: there is none with this tag.
 pub const NO_CALL: u32 = 4294967295;
@@ -59,13 +61,13 @@ fn set_up(tag: u8, first: u32, second: u32, rec: &mut [u8]) -> u32 {
 
 // Does the call of this entry, and answers what it answers.
 pub fn call(head: &[u8], input: &[u8], rec: &mut [u8], out: &mut [u8]) -> u32
-    requires { ⌜ length (now head) ≡ 20 ⌝ }
+    requires { ⌜ length (now head) ≡ HEAD ⌝ }
 {
     let tag = head[entry::TAG];
-    let first = entry::number(head, entry::FIRST);
+    let first = four_at(head, entry::FIRST);
     match tag {
         1..=10 => edit(tag, first, rec, input, out),
         11..=18 => move_cursor(tag, rec),
-        _ => set_up(tag, first, entry::number(head, entry::SECOND), rec),
+        _ => set_up(tag, first, four_at(head, entry::SECOND), rec),
     }
 }

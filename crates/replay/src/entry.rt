@@ -1,13 +1,14 @@
-// An entry of the file of recorded answers, as host/README.md has it ("Recorded answers"): a head of 20 bytes, and a body, which is
-// the call's input and then the submitted text.
-ghost use Prim.Native.Nat.{_+_, _<_, _≤_};
+// An entry of the recording: a head, and a body, which is the call's input and then the submitted text. docs/RECORDING.md has the format.
+use bytes::number::two_at;
+use bytes::number::wide;
+use line::text::MAX_LOGICAL;
+ghost use Prim.Native.Nat.{_<_, _≤_};
 ghost use mathlib.Core.Path.{_≡_};
 ghost use lib.ListN.{length};
-use line::text::MAX_LOGICAL;
+ghost use Rattle.line.specs.Line.{MAX-LOGICAL};
+ghost use Rattle.replay.specs.Entry.{HEAD, MODULUS};
 
-pub const HEAD: usize = 20;
-
-// Where the fields of a head stand.
+// Where the fields of a head stand, and its length.
 pub const TAG: usize = 0;
 
 pub const FIRST: usize = 1;
@@ -23,47 +24,39 @@ pub const TEXT: usize = 15;
 // What stands before it is in the digest.
 pub const DIGEST: usize = 16;
 
+pub const HEAD: usize = 20;
+
 pub const LONGEST_INPUT: usize = 512;
 
 pub const LONGEST_BODY: usize = LONGEST_INPUT + MAX_LOGICAL;
 
-fn wide(b: u8) -> u32
-    ensures { λ r. ⌜ r < 256 ⌝ }
-{
-    b as u32
-}
+// With each byte the digest is multiplied by FACTOR; it stays below MODULUS.
+const FACTOR: u64 = 257;
 
-// The four bytes from at on, the first one the highest.
-pub fn number(head: &[u8], at: usize) -> u32
-    requires { ⌜ at + 4 ≤ length (now head) ⌝ }
-{
-    let high = wide(head[at]) * 256 + wide(head[at + 1]);
-    let low = wide(head[at + 2]) * 256 + wide(head[at + 3]);
-    high * 65536 + low
-}
+const MODULUS: u64 = 2147483647;
 
 pub fn input_length(head: &[u8]) -> usize
-    requires { ⌜ length (now head) ≡ 20 ⌝ }
+    requires { ⌜ length (now head) ≡ HEAD ⌝ }
 {
-    (wide(head[INPUT]) * 256 + wide(head[INPUT + 1])) as usize
+    two_at(head, INPUT)
 }
 
 pub fn text_length(head: &[u8]) -> usize
-    requires { ⌜ length (now head) ≡ 20 ⌝ }
-    ensures { λ r. ⌜ r ≤ 255 ⌝ }
+    requires { ⌜ length (now head) ≡ HEAD ⌝ }
+    ensures { λ r. ⌜ r ≤ MAX-LOGICAL ⌝ }
 {
-    wide(head[TEXT]) as usize
+    wide(head[TEXT])
 }
 
 // The digest of what gave h and then these bytes.
 fn digest_after(h: u64, bytes: &[u8]) -> u64
-    requires { ⌜ h < 2147483647 ⌝ }
-    ensures { λ r. ⌜ r < 2147483647 ⌝ }
+    requires { ⌜ h < MODULUS ⌝ }
+    ensures { λ r. ⌜ r < MODULUS ⌝ }
 {
     let mut d = h;
     let mut i = 0;
     while i < bytes.len() {
-        d = (d * 257 + wide(bytes[i]) as u64) % 2147483647;
+        d = (d * FACTOR + wide(bytes[i]) as u64) % MODULUS;
         i += 1;
     }
     d
@@ -71,7 +64,7 @@ fn digest_after(h: u64, bytes: &[u8]) -> u64
 
 // The digest of an entry whose call has left this record.
 pub fn digest(head: &[u8], body: &[u8], rec: &[u8]) -> u32
-    requires { ⌜ length (now head) ≡ 20 ⌝ }
+    requires { ⌜ length (now head) ≡ HEAD ⌝ }
 {
     let of_head = digest_after(0, &head[0..DIGEST]);
     let of_entry = digest_after(of_head, body);

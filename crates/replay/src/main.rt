@@ -1,17 +1,19 @@
-// Does the calls of the file of recorded answers (host/README.md) again, an entry at a time, and counts those that answered, submitted
+// Does the calls of the recording (docs/RECORDING.md) again, an entry at a time, and counts those that answered, submitted
 // or left something else than was recorded. Proved is that it is safe and ends; what it finds is held to the file `stdout`.
 mod again;
 mod entry;
 
-ghost use Prim.Native.Nat.{_≤_};
-ghost use mathlib.Core.Path.{_≡_};
-ghost use lib.ListN.{length};
+use bytes::number::four_at;
 use entry::HEAD;
 use entry::LONGEST_BODY;
 use entry::LONGEST_INPUT;
 use grid::layout::SIZE;
 use libc::STDOUT_FILENO;
 use line::text::MAX_LOGICAL;
+ghost use Prim.Native.Nat.{_≤_};
+ghost use mathlib.Core.Path.{_≡_};
+ghost use lib.ListN.{length};
+ghost use Rattle.replay.specs.Entry.{HEAD, LONGEST-INPUT, LONGEST-BODY};
 
 // More than any file has: by it the loop over the entries ends.
 const MOST_CALLS: u64 = 1000000000;
@@ -40,10 +42,10 @@ struct Tally {
 
 // Does the call of an entry again. The input is the first n of the body's bytes, and the text the next ones, up to end.
 fn redo(head: &[u8], body: &[u8], n: usize, end: usize, rec: &mut [u8]) -> Found
-    requires { ⌜ length (now head) ≡ 20 ⌝ }
-    requires { ⌜ length (now body) ≡ 767 ⌝ }
-    requires { ⌜ n ≤ 512 ⌝ }
-    requires { ⌜ end ≤ 767 ⌝ }
+    requires { ⌜ length (now head) ≡ HEAD ⌝ }
+    requires { ⌜ length (now body) ≡ LONGEST-BODY ⌝ }
+    requires { ⌜ n ≤ LONGEST-INPUT ⌝ }
+    requires { ⌜ end ≤ LONGEST-BODY ⌝ }
 {
     let mut space = [0u8; MAX_LOGICAL];
     let out: &mut [u8] = &mut space;
@@ -51,14 +53,14 @@ fn redo(head: &[u8], body: &[u8], n: usize, end: usize, rec: &mut [u8]) -> Found
     if answer == again::NO_CALL {
         return Found::NoCall;
     }
-    if answer != entry::number(head, entry::ANSWER) {
+    if answer != four_at(head, entry::ANSWER) {
         return Found::Differs;
     }
     // Behind the text there are only zeros, in the body as in out.
     if !check::same(&body[n..n + MAX_LOGICAL], out) {
         return Found::Differs;
     }
-    if entry::digest(head, &body[0..end], rec) != entry::number(head, entry::DIGEST) {
+    if entry::digest(head, &body[0..end], rec) != four_at(head, entry::DIGEST) {
         return Found::Differs;
     }
     Found::AsRecorded

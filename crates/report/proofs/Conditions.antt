@@ -1,26 +1,33 @@
 -- From the test of a report to document 01's conditions, and back.
 -- Assumes nothing.
-use Prim.Native.Nat.{ℕ, _+_, _*_}
+use Prim.Native.Nat.{ℕ, _+_, _*_, _≤_, _<_}
 use mathlib.Core.Path.{_≡_, refl, sym, ap, _∙_}
 use mathlib.Core.Bool.{true}
 use mathlib.Core.List.{List}
-use lib.ListN.{getD, drop}
+use mathlib.Core.Logic.{_↔_}
+use native.Mathlib.Omega.{arith}
+use lib.ListN.{length, getD, drop}
 use lib.Count.{ones}
 use borrow.Author.Tests.{ltb-true, eqb-true, lt-ltb, eq-eqb}
 use Rattle.bytes.specs.Number.{fourAt}
 use Rattle.bytes.specs.Test.{every}
 use Rattle.bytes.proofs.Bools.{and-left, and-right, tests}
 use Rattle.grid.specs.Layout.{MASKS}
-use Rattle.grid.specs.Screen.{validHead, validRow}
+use Rattle.grid.specs.Screen.{noRow, validHead, validRow}
+use Rattle.grid.specs.Record.{headAt, rowFrom}
+use Rattle.grid.specs.Facts.{HeadFacts}
+use Rattle.grid.specs.Conditions.{ValidRow}
 use Rattle.grid.proofs.Validity.{head-facts, head-valid}
-use Rattle.report.specs.Layout.{KIND, MASK, ROWS, ROW-SIZE, ALL-ROWS}
+use Rattle.grid.proofs.Conditions.{head-conditions, conditions-head, rows-conditions}
+use Rattle.report.specs.Layout.{KIND, MASK, HEAD, ROWS, ROW-SIZE, ALL-ROWS}
 use Rattle.report.specs.declared.kind.Kind.{Kind}
 use Rattle.report.specs.declared.kind.Kind.the-variants.{Step, Full}
 use Rattle.report.specs.Kind.{kindByte, kindOf, maskFits, reportLength}
-use Rattle.report.specs.Report.{readFront, carriedRows, readReport, frontb, reportb}
+use Rattle.report.specs.Report.{readFront, rowIn, carriedRows, readReport, frontb, reportb}
 use Rattle.report.specs.Refusals.{KindFits, ValidReport}
 use Rattle.report.specs.Refusals.KindFits.{step, full}
 use Rattle.report.proofs.KindLaws.{rows-at, step-byte, full-of}
+use Rattle.report.proofs.CheckLaws.{length-rows-in, row-at}
 
 fits-kind : (k mask : ℕ) (kind : Kind) → k ≡ kindByte kind → maskFits kind mask ≡ true → KindFits k mask
 unfolding kindByte maskFits
@@ -61,16 +68,36 @@ pub kind-told : (b : List ℕ) → reportb b ≡ true → getD b KIND 0 ≡ kind
 unfolding reportb frontb readFront
 kind-told b e = eqb-true _ _ (search (and-left, and-right) depth 8)
 
+-- ---- the rows
+
+row-in : (b : List ℕ) (n k : ℕ) → k < n
+    → getD (carriedRows n (drop ROWS b)) k noRow ≡ (let at = ROWS + ROW-SIZE * k in rowFrom (getD b at 0) b (at + 1) (at + 1 + 80))
+unfolding rowIn
+row-in b n k h = row-at ROWS n b k noRow h
+
+report-rows : (b : List ℕ) (w n : ℕ) → w ≤ 80 → length b ≡ ROWS + ROW-SIZE * n
+    → (every (validRow w) (carriedRows n (drop ROWS b)) ≡ true)
+    ↔ ((k : ℕ) → k < n → let at = ROWS + ROW-SIZE * k in ValidRow w b at (at + 1) (at + 1 + 80))
+report-rows b w n wide size =
+    rows-conditions w n b (carriedRows n (drop ROWS b)) (λ k. ROWS + ROW-SIZE * k) (λ k. ROWS + ROW-SIZE * k + 1) (λ k. ROWS + ROW-SIZE * k + 1 + 80) wide
+    (length-rows-in n (drop ROWS b)) (λ k h. (omega arith, omega arith)) (row-in b n)
+
+-- ---- the report
+
 pub report-facts : (b : List ℕ) → reportb b ≡ true → ValidReport b
 unfolding reportb frontb readFront
 report-facts b e =
+    let size : length b ≡ ROWS + ROW-SIZE * ones (fourAt b MASK) = eqb-true _ _ (search (and-left, and-right) depth 8) ∙ length-from b in
+    let h : HeadFacts (headAt b HEAD) = head-facts _ (unfold readReport in search (and-left, and-right) depth 8) in
+    let r : every (validRow (headAt b HEAD .width)) (carriedRows (ones (fourAt b MASK)) (drop ROWS b)) ≡ true =
+    rw (← rows-from b) (unfold readReport in search (and-left, and-right) depth 8) in
     record {
-      size = eqb-true _ _ (search (and-left, and-right) depth 8) ∙ length-from b;
+      size = size;
       field = eqb-true _ _ (search (and-left, and-right) depth 8);
       version = eqb-true _ _ (search (and-left, and-right) depth 8);
       kind = fits-kind _ _ (kindOf (getD b KIND 0)) (kind-told b e) (search (and-left, and-right) depth 8);
-      head = head-facts _ (unfold readReport in search (and-left, and-right) depth 8);
-      rows = rw (← rows-from b) (unfold readReport in search (and-left, and-right) depth 8);
+      head = head-conditions _ h;
+      rows = report-rows b _ _ (h .width-to) size .0 r;
     }
 
 pub facts-report : (b : List ℕ) → ValidReport b → reportb b ≡ true
@@ -82,6 +109,8 @@ facts-report b v =
     let t = kind-fits _ _ (v .kind) in
     let k = t .byte in
     let m = t .fits in
-    let h : validHead (readReport b .front .head) ≡ true = unfold readReport in head-valid _ (v .head) in
-    let r : every (validRow (readReport b .front .head .width)) (readReport b .rows) ≡ true = rw (rows-from b) (unfold readReport in v .rows) in
+    let g = conditions-head _ (v .head) in
+    let h : validHead (readReport b .front .head) ≡ true = unfold readReport in head-valid _ g in
+    let r : every (validRow (readReport b .front .head .width)) (readReport b .rows) ≡ true =
+    rw (rows-from b) (unfold readReport in report-rows b _ _ (g .width-to) (v .size) .1 (v .rows)) in
     search tests depth 8

@@ -33,6 +33,6 @@ unfoldable pub rowsAt : Kind → ℕ
 rowsAt Step = ROWS
 rowsAt Full = ROWS
 
--- 18 + 161 × the number of ones in the mask
+-- what stands before the rows, and a row for each one in the mask
 abbrev pub reportLength : Kind → ℕ → ℕ
 reportLength kind mask = rowsAt kind + ROW-SIZE * ones mask

@@ -3,22 +3,19 @@
 -- Assumes nothing.
 use Prim.Native.Nat.{ℕ, _+_, _*_, _≤_, _<_}
 use mathlib.Core.Path.{_≡_}
-use mathlib.Core.Bool.{true}
 use mathlib.Core.List.{List}
 use mathlib.Core.Logic.{_≢_}
-use lib.ListN.{length, getD, drop}
+use lib.ListN.{length, getD}
 use lib.Count.{ones}
 use Rattle.bytes.specs.Answer.{refused, wrote}
 use Rattle.bytes.specs.Number.{number2, fourAt}
 use Rattle.bytes.specs.Refusals.{Refuses}
-use Rattle.bytes.specs.Test.{every}
 use Rattle.grid.specs.Layout.{SIZE, MASKS}
-use Rattle.grid.specs.Screen.{validRow}
 use Rattle.grid.specs.Record.{headAt}
-use Rattle.grid.specs.Facts.{HeadFacts, Valid}
+use Rattle.grid.specs.Conditions.{ValidHead, ValidRow, ValidRecord}
 use Rattle.report.specs.Layout.{REPORT-VERSION, KIND, MASK, HEAD, ROWS, ROW-SIZE, LONGEST, STEP, FULL, ALL-ROWS}
 use Rattle.report.specs.declared.kind.Kind.{Kind}
-use Rattle.report.specs.Report.{carriedRows, reported, reporting}
+use Rattle.report.specs.Report.{reported, reporting}
 
 -- the byte of the kind, and the mask: below 2 ^ 25 and, if full, that of all rows
 pub data KindFits (kind mask : ℕ) : Type 0 where
@@ -30,14 +27,14 @@ pub record ValidReport (b : List ℕ) : Type 0 where
   pub field : number2 (getD b 0 0) (getD b 1 0) ≡ length b
   pub version : getD b 2 0 ≡ REPORT-VERSION
   pub kind : KindFits (getD b KIND 0) (fourAt b MASK)
-  pub head : HeadFacts (headAt b HEAD)
-  -- its rows are judged by its own width
-  pub rows : every (validRow (headAt b HEAD .width)) (carriedRows (ones (fourAt b MASK)) (drop ROWS b)) ≡ true
+  pub head : ValidHead (headAt b HEAD)
+  -- its rows are judged by its own width; of each come flag, characters, attributes
+  pub rows : (k : ℕ) → k < ones (fourAt b MASK) → let at = ROWS + ROW-SIZE * k in ValidRow (headAt b HEAD .width) b at (at + 1) (at + 1 + 80)
 
 pub data ReportRefused (l out : List ℕ) : ℕ → Type 0 where
   record-length : length l ≢ SIZE → ReportRefused l out 1
   output-length : length out < LONGEST → ReportRefused l out 1
-  layout : ¬ Valid l → ReportRefused l out 2
+  layout : ¬ ValidRecord l → ReportRefused l out 2
 
 pub record ReportingAnswers (kind : Kind) (l out : List ℕ) : Type 0 where
   pub number : Refuses (ReportRefused l out) (reporting kind l out .number)

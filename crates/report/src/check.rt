@@ -9,23 +9,17 @@ use crate::layout::KIND;
 use crate::layout::REPORT_VERSION;
 use crate::layout::ROW_SIZE;
 use crate::layout::ROWS;
+use bytes::number::two_at;
 use bytes::zero;
 use grid::layout::STRIDE;
 use grid::valid;
 ghost use mathlib.Core.Path.{_≡_};
 ghost use Prim.Native.Nat.{_+_, _*_, _≤_};
 ghost use lib.ListN.{length, drop};
-ghost use Rattle.bytes.specs.Number.{number2};
 ghost use Rattle.bytes.specs.Test.{every};
 ghost use Rattle.grid.specs.Screen.{validRow};
 ghost use Rattle.report.specs.Layout.{ROWS, ROW-SIZE};
 ghost use Rattle.report.specs.Report.{readFront, rowIn, carriedRows, frontb, reportb};
-
-fn number(a: u8, b: u8) -> usize
-    ensures { λ n. ⌜ n ≡ number2 a b ⌝ }
-{
-    (a as usize) * 256 + (b as usize)
-}
 
 // Is the front f of the slice as the layout asks?
 fn front_ok(b: &[u8], f: Front) -> bool
@@ -36,7 +30,7 @@ fn front_ok(b: &[u8], f: Front) -> bool
     if b.len() != report_length(kind, f.mask) {
         return false;
     }
-    if number(b[0], b[1]) != b.len() {
+    if two_at(b, 0) != b.len() {
         return false;
     }
     if b[2] != REPORT_VERSION {

@@ -27,7 +27,7 @@ pub struct Front {
     pub head: Head,
 }
 
-// 18 + 161 × the number of ones in the mask: where a report is made, and where one is checked.
+// What stands before the rows, and a row for each one in the mask: where a report is made, and where one is checked.
 pub fn report_length(kind: Kind, mask: u32) -> usize
     ensures { λ n. ⌜ n ≡ reportLength kind mask ⌝ }
 {

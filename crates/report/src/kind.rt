@@ -5,7 +5,7 @@ use crate::layout::ROWS;
 use crate::layout::STEP;
 use grid::layout::MASKS;
 ghost use mathlib.Core.Path.{_≡_};
-ghost use Rattle.report.specs.Kind.{kindOf, kindByte, maskOf, maskFits, rowsAt, reportLength};
+ghost use Rattle.report.specs.Kind.{kindOf, kindByte, maskOf, maskFits, rowsAt};
 
 pub enum Kind {
     // The rows that the last call touched.

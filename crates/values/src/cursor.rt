@@ -1,6 +1,7 @@
 // The cursor, and its moves in w columns and e rows: each hands the new cursor back.
+use bytes::compare::smaller;
 ghost use mathlib.Core.Path.{_≡_};
-ghost use Prim.Native.Nat.{_<_, min};
+ghost use Prim.Native.Nat.{_<_};
 ghost use Rattle.values.specs.Cursor.{at, left, right, up, down, clamp};
 
 pub struct Cursor {
@@ -89,8 +90,8 @@ impl Cursor {
         ensures { λ c. ⌜ c ≡ clamp w e self ⌝ }
     {
         Cursor {
-            row: least(self.row, e - 1),
-            col: least(self.col, w - 1),
+            row: smaller(self.row, e - 1),
+            col: smaller(self.col, w - 1),
         }
     }
 
@@ -99,10 +100,4 @@ impl Cursor {
     {
         Cursor::HOME
     }
-}
-
-fn least(a: usize, b: usize) -> usize
-    ensures { λ m. ⌜ m ≡ min a b ⌝ }
-{
-    if a < b { a } else { b }
 }

@@ -1,26 +1,5 @@
 //! The file of recorded answers: what the Rust answered to some hundred random lists, for a reader that allocates nothing.
-//!
-//! The file is a sequence of entries, one a call, with nothing before, between or after them. Numbers are big-endian. An entry has
-//! 20 bytes that are always there, and then the bytes of its input and of its text:
-//!
-//! | bytes | what |
-//! |---|---|
-//! | 0 | tag: which call |
-//! | 1–4 | first argument, else 0 |
-//! | 5–8 | second argument, else 0 |
-//! | 9–10 | i, the length of the input; not 0 only for `print_bytes` |
-//! | 11–14 | the number answered |
-//! | 15 | t, the length of the submitted text; not 0 only for `take_logical_line` |
-//! | 16–19 | digest |
-//! | 20 .. 20 + i | the input |
-//! | 20 + i .. 20 + i + t | the text |
-//!
-//! Tag 0 is `new` and begins a list, with the width as first argument. The changing calls have the tags that the table in `call.rs` gives
-//! them: 1 `print_bytes`, 2 `type_char`, .. 24 `set_keys_on`. Some arguments are out of range; the answer is then a refusal.
-//!
-//! The input has at most 512 bytes. The digest is taken over this entry's bytes 0 to 15, its input, its text, and the whole record after the
-//! call, in this order. It starts at 0, and with each byte h becomes (257 h + byte) mod 2,147,483,647, which does not overflow in 64 bits. The
-//! entry's own bytes are in it so that a changed byte is seen wherever it stands, in an unused argument too.
+//! docs/RECORDING.md has its format.
 use crate::call::{Call, Given};
 use crate::judge;
 use crate::layout::*;
@@ -29,15 +8,27 @@ use crate::oracle::{self, TextScreen};
 use crate::random::runner;
 use proptest::strategy::{Strategy, ValueTree};
 
-const FRONT: usize = 16;
+// Where the fields of a head stand, and its length.
+const TAG: usize = 0;
+const FIRST: usize = 1;
+const SECOND: usize = 5;
+const INPUT: usize = 9;
+const ANSWER: usize = 11;
+const TEXT: usize = 15;
+/// What stands before it is in the digest.
+const DIGEST: usize = 16;
 const HEAD: usize = 20;
+
 /// An entry has room for so many arguments that are numbers.
 const NUMBERS: usize = 2;
 pub const LONGEST_INPUT: usize = 512;
 
+const FACTOR: u64 = 257;
+const MODULUS: u64 = 2_147_483_647;
+
 /// The digest of all these bytes, one part after the other.
 fn digest(parts: &[&[u8]]) -> u32 {
-    let step = |h: u64, &b: &u8| (h * 257 + b as u64) % 2_147_483_647;
+    let step = |h: u64, &b: &u8| (h * FACTOR + b as u64) % MODULUS;
     parts.iter().copied().flatten().fold(0, step) as u32
 }
 
@@ -50,7 +41,7 @@ fn entry(call: &Call, answer: u32, text: &[u8], rec: &[u8]) -> Vec<u8> {
     front.extend((input.len() as u16).to_be_bytes());
     front.extend(answer.to_be_bytes());
     front.push(text.len() as u8);
-    assert!(front.len() == FRONT);
+    assert!(front.len() == DIGEST);
     let digest = digest(&[&front, &input, text, rec]).to_be_bytes();
     [&front, &digest[..], &input, text].concat()
 }
@@ -105,7 +96,7 @@ pub fn replay(bytes: &[u8]) -> Result<(usize, usize), String> {
     for entry in entries(bytes)? {
         let mut out = vec![0; LINE];
         let answer = entry.call()?.make(&mut rec, &mut out);
-        let as_recorded = answer == entry.number(11) && out.starts_with(entry.text()) && entry.digest(&rec) == entry.number(FRONT);
+        let as_recorded = answer == entry.number(ANSWER) && out.starts_with(entry.text()) && entry.digest(&rec) == entry.number(DIGEST);
         differing += !as_recorded as usize;
         calls += 1;
     }
@@ -142,7 +133,7 @@ struct Entry<'a>(&'a [u8]);
 impl<'a> Entry<'a> {
     fn first_of(bytes: &'a [u8]) -> Option<Self> {
         let head = Self(bytes.get(..HEAD)?);
-        let length = HEAD + head.input_length() + head.0[15] as usize;
+        let length = HEAD + head.input_length() + head.0[TEXT] as usize;
         bytes.get(..length).map(Self)
     }
 
@@ -151,12 +142,12 @@ impl<'a> Entry<'a> {
     }
 
     fn input_length(&self) -> usize {
-        u16::from_be_bytes([self.0[9], self.0[10]]) as usize
+        u16::from_be_bytes([self.0[INPUT], self.0[INPUT + 1]]) as usize
     }
 
     /// What the digest is, if the call has left this record.
     fn digest(&self, rec: &[u8]) -> u32 {
-        digest(&[&self.0[..FRONT], &self.0[HEAD..], rec])
+        digest(&[&self.0[..DIGEST], &self.0[HEAD..], rec])
     }
 
     fn text(&self) -> &[u8] {
@@ -165,7 +156,7 @@ impl<'a> Entry<'a> {
 
     fn call(&self) -> Result<Call, String> {
         let bytes = self.0[HEAD..HEAD + self.input_length()].to_vec();
-        let given = Given { numbers: [self.number(1), self.number(5)].into(), bytes };
-        Call::with_tag(self.0[0], given).ok_or("no recording: no call has this tag".into())
+        let given = Given { numbers: [self.number(FIRST), self.number(SECOND)].into(), bytes };
+        Call::with_tag(self.0[TAG], given).ok_or("no recording: no call has this tag".into())
     }
 }

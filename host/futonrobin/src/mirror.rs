@@ -6,7 +6,7 @@ use std::fmt;
 
 /// A mirror of its own. Nothing but arrivals changes it.
 ///
-/// New at its screen's width, it shows that screen after the first m accepted calls, whatever the line does to reports: [`Shown::serial`] is
+/// New at its screen's width, it shows that screen after the first m accepted calls, whatever the line does to whole reports: [`Shown::serial`] is
 /// m. It is level if m is the newest serial that it has heard of.
 #[derive(Clone, PartialEq, Eq)]
 pub struct Mirror {

@@ -68,6 +68,7 @@ pub fn random_number() -> u64 {
 mod tests {
     use super::*;
     use crate::line::Faults;
+    use futonrobin::layout::REPORT;
 
     #[test]
     fn full_reports_when_they_are_due() {
@@ -75,7 +76,7 @@ mod tests {
         let mut sender = Sender::new(40, Line::new(Faults::default(), 1), begun);
         let due = |sender: &mut Sender, screen: &Screen, millis: u64| {
             let leaving = sender.full_if_due(screen, begun + Duration::from_millis(millis));
-            leaving.iter().any(|bytes| matches!(datagram::read(bytes), Some((_, Datagram::Report(report))) if report.len() == 4043))
+            leaving.iter().any(|bytes| matches!(datagram::read(bytes), Some((_, Datagram::Report(report))) if report.len() == REPORT))
         };
         assert!(!due(&mut sender, &screen, 999));
         assert!(due(&mut sender, &screen, 1000), "the line was silent");

@@ -1,7 +1,7 @@
 -- `editor::lines::take_logical_line` meets its contract. Assumes nothing.
 use borrow.Author.Needs.{needs}
 use Rattle.editor.proofs.LinesLaws.{end-below, end-low, take-cleared}
-use Rattle.editor.proofs.LinesLaws.{end-facts, take-next}
+use Rattle.editor.proofs.LinesLaws.{begins-row, take-next}
 use Rattle.editor.proofs.lines.take_logical_line.Statement.{statement}
 use Rattle.editor.proofs.lines.take_logical_line.Tie as tie
 
@@ -33,7 +33,7 @@ with-cursor-requires : tie.Need-with-cursor-requires
 with-cursor-requires c κs = search needs
 
 next-row-requires : tie.Need-next-row-requires
-next-row-requires c κs = (search needs, search (needs, end-facts))
+next-row-requires c κs = (search needs, search (needs, begins-row))
 
 same-length-2 : tie.Need-same-length-2
 same-length-2 c = search needs

@@ -7,14 +7,14 @@ use Rattle.keys.proofs.StripLaws.{slot-end}
 use Rattle.keys.proofs.strip.put_slot.Statement.{statement}
 use Rattle.keys.proofs.strip.put_slot.Tie as tie
 
-mul-least : tie.Need-mul-least
-mul-least c = search needs
+mul-smaller : tie.Need-mul-smaller
+mul-smaller c = search needs
 
-array-read-least : tie.Need-array-read-least
-array-read-least c = search needs
+array-read-smaller : tie.Need-array-read-smaller
+array-read-smaller c = search needs
 
-least-requires : tie.Need-least-requires
-least-requires c κs = search needs
+smaller-requires : tie.Need-smaller-requires
+smaller-requires c κs = search needs
 
 add-put-display : tie.Need-add-put-display
 add-put-display c = search needs
@@ -44,15 +44,15 @@ same-length : tie.Need-same-length
 same-length c = simp length-set (omega arith)
 
 returns : tie.Need-returns
-returns c = slot-end _ _ _ _ _ _ _ _ _ (c .before .before .before .before .before .before .before .before .before .before .before .pre .1) (c .before .before .before .before .before .before .before .before .before .before .before .pre .2) (c .before .before .before .before .before .before .before .before .before .least .ensures) (c .before .before .before .before .before .before .before .put-display .ensures) (c .before .before .before .fill .ensures) (c .digit .ensures)
+returns c = slot-end _ _ _ _ _ _ _ _ _ (c .before .before .before .before .before .before .before .before .before .before .before .pre .1) (c .before .before .before .before .before .before .before .before .before .before .before .pre .2) (search needs) (c .before .before .before .before .before .before .before .put-display .ensures) (c .before .before .before .fill .ensures) (c .digit .ensures)
 
 pub put-slot-spec : {M : Type 1} → statement M
 put-slot-spec =
     tie.close
     (tie.spec
-    mul-least
-    array-read-least
-    least-requires
+    mul-smaller
+    array-read-smaller
+    smaller-requires
     add-put-display
     put-display-requires
     add-fill

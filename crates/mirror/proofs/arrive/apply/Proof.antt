@@ -10,8 +10,8 @@ four-at-requires c κs = search needs
 four-at-requires-2 : tie.Need-four-at-requires-2
 four-at-requires-2 c κs = search needs
 
-larger-requires : tie.Need-larger-requires
-larger-requires c κs = search needs
+later-requires : tie.Need-later-requires
+later-requires c κs = search needs
 
 sub-show : tie.Need-sub-show
 sub-show c = search needs
@@ -43,7 +43,7 @@ apply-spec =
     (tie.spec
     four-at-requires
     four-at-requires-2
-    larger-requires
+    later-requires
     sub-show
     part-show-start
     part-show-end

@@ -14,8 +14,8 @@ four-at-requires c κs = search needs
 four-at-requires-2 : tie.Need-four-at-requires-2
 four-at-requires-2 c κs = search needs
 
-larger-requires : tie.Need-larger-requires
-larger-requires c κs = search needs
+later-requires : tie.Need-later-requires
+later-requires c κs = search needs
 
 write-front-requires : tie.Need-write-front-requires
 write-front-requires c κs = search needs
@@ -38,7 +38,7 @@ note-spec =
     shown-serial-requires
     four-at-requires
     four-at-requires-2
-    larger-requires
+    later-requires
     write-front-requires
     level-requires
     same-length

@@ -1,6 +1,6 @@
 -- `moves::modes::clear` meets its contract. Assumes nothing.
 use borrow.Author.Needs.{needs}
-use Rattle.moves.proofs.ModesLaws.{cleared}
+use Rattle.moves.proofs.ModesLaws.{rows-below, cleared}
 use Rattle.moves.proofs.modes.clear.Statement.{statement}
 use Rattle.moves.proofs.modes.clear.Tie as tie
 
@@ -11,7 +11,7 @@ editable-rows-requires : tie.Need-editable-rows-requires
 editable-rows-requires c κs = search needs
 
 blank-rows-requires : tie.Need-blank-rows-requires
-blank-rows-requires c κs = search needs
+blank-rows-requires c κs = search (needs, rows-below)
 
 home-requires : tie.Need-home-requires
 home-requires c κs = search needs

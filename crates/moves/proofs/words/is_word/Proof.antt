@@ -8,19 +8,19 @@ between-requires : tie.Need-between-requires
 between-requires c κs = search needs
 
 returns : tie.Need-returns
-returns c = search (needs, word-digit)
+returns c = search (needs, word-capital)
 
 between-requires-2 : tie.Need-between-requires-2
 between-requires-2 c κs = search needs
 
 returns-2 : tie.Need-returns-2
-returns-2 c = search (needs, word-capital)
+returns-2 c = search (needs, word-small)
 
 between-requires-3 : tie.Need-between-requires-3
 between-requires-3 c κs = search needs
 
 returns-3 : tie.Need-returns-3
-returns-3 c = search (needs, word-small)
+returns-3 c = search (needs, word-digit)
 
 pub is-word-spec : {M : Type 1} → statement M
 is-word-spec =

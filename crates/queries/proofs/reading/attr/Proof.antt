@@ -20,10 +20,13 @@ byte-requires c κs = search needs
 wide-requires : tie.Need-wide-requires
 wide-requires c κs = search needs
 
+cast-result : tie.Need-cast-result
+cast-result c = search needs
+
 returns-2 : tie.Need-returns-2
 returns-2 c = search (needs, asked-attr)
 
 pub attr-spec : {M : Type 1} → statement M
 attr-spec =
     tie.close
-    (tie.spec record-refused-requires returns read-head-requires byte-requires wide-requires returns-2)
+    (tie.spec record-refused-requires returns read-head-requires byte-requires wide-requires cast-result returns-2)

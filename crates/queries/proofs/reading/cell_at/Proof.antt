@@ -22,6 +22,9 @@ mul-result c = search needs
 add-result : tie.Need-add-result
 add-result c = search needs
 
+cast-result : tie.Need-cast-result
+cast-result c = search needs
+
 returns : tie.Need-returns
 returns c = search (needs, cell-read)
 
@@ -35,4 +38,5 @@ cell-at-spec =
     wide-requires-2
     mul-result
     add-result
+    cast-result
     returns)

@@ -23,6 +23,9 @@ flag-at-requires c κs = (search (needs, size-known), search needs)
 wide-requires : tie.Need-wide-requires
 wide-requires c κs = search needs
 
+cast-result : tie.Need-cast-result
+cast-result c = search needs
+
 returns-3 : tie.Need-returns-3
 returns-3 c = search (needs, continues-done)
 
@@ -36,4 +39,5 @@ continues-spec =
     returns-2
     flag-at-requires
     wide-requires
+    cast-result
     returns-3)

@@ -2,11 +2,12 @@
 use Prim.Native.Nat.{_-_, _≤_, _<_}
 use lib.ListN.{length}
 use borrow.Author.Needs.{needs}
+use Rattle.replay.specs.Entry.{MODULUS}
 use Rattle.replay.proofs.entry.digest_after.Statement.{statement}
 use Rattle.replay.proofs.entry.digest_after.Tie as tie
 
 abbrev Inv-loop : tie.InvT-loop
-Inv-loop h bytes d₀ i₀ d i = (d < 2147483647) × (i ≤ length bytes)
+Inv-loop h bytes d₀ i₀ d i = (d < MODULUS) × (i ≤ length bytes)
 
 abbrev μ-loop : tie.MeasureT-loop
 μ-loop h bytes d₀ i₀ d i = length bytes - i
@@ -22,9 +23,6 @@ shared-slice-read-wide c = search needs
 
 wide-requires : tie.Need-wide-requires Inv-loop μ-loop
 wide-requires c κs = search needs
-
-cast-d : tie.Need-cast-d Inv-loop μ-loop
-cast-d c = search needs
 
 add-d : tie.Need-add-d Inv-loop μ-loop
 add-d c = search needs
@@ -51,7 +49,6 @@ digest-after-spec =
     mul-d
     shared-slice-read-wide
     wide-requires
-    cast-d
     add-d
     add-i
     loop-less

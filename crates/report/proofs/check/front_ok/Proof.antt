@@ -10,14 +10,8 @@ report-length-requires c κs = search needs
 returns : tie.Need-returns
 returns c = search (needs, length-wrong)
 
-shared-slice-read-number : tie.Need-shared-slice-read-number
-shared-slice-read-number c = search needs
-
-shared-slice-read-number-2 : tie.Need-shared-slice-read-number-2
-shared-slice-read-number-2 c = search needs
-
-number-requires : tie.Need-number-requires
-number-requires c κs = search needs
+two-at-requires : tie.Need-two-at-requires
+two-at-requires c κs = search needs
 
 returns-2 : tie.Need-returns-2
 returns-2 c = search (needs, field-wrong)
@@ -49,9 +43,7 @@ front-ok-spec =
     (tie.spec
     report-length-requires
     returns
-    shared-slice-read-number
-    shared-slice-read-number-2
-    number-requires
+    two-at-requires
     returns-2
     shared-slice-read-if3
     returns-3

@@ -26,7 +26,7 @@ use denote.Triple.Table.{entered, cited}
 use denote.Triple.Clauses.{ensured, lasts}
 use denote.Triple.Walked.{says}
 use Rattle.values.specs.declared.cursor.Cursor.{Cursor}
-use Rattle.values.proofs.LentLaws.{Of, arrow, mach, meets}
+use Rattle.values.proofs.LentLaws.{Of, mach, meets}
 use Rattle.values.specs.Cursor as Moves
 use Rattle.values.proofs.cursor.Cursor as T
 use Rattle.values.proofs.cursor.Cursor.Laws as T′
@@ -62,10 +62,6 @@ module _ {M : Type 1} (𝓤 : URA M) (H : Heap 𝓤) (A : Atoms 𝓤) (mem : Mem
   asks : Given 𝓤 H A → (c : Cursor) (w e : ℕ) → Is T.the-row c (mach c ∷ []) → w < 2 ^ 64 → e < 2 ^ 64 → ent 𝓤 (Asked c w e) (Move .pre (y c w e))
   asks W c w e is fw fe =
       qed W (raw (Asked c w e) ∷ []) ∵ heard ! (0 < w) (λ ok. says ! ok $ nothing ! $ owned ! usize (Is usize) (uint-makes 𝓤 H A W w64) w _ (refl, fw) $ join ! $ owned ! T.the-row (Is T.the-row) ((LL.makes T.the-type T′.the-plain) 𝓤 H A) c _ is $ join ! $ nothing ! $ join ! $ by ! (id⊢ 𝓤 _))
-
--- the code is that of an arrow that calls the move `left`
-code-is : code.function ≡ arrow #left (copy (place 4 []) ∷ copy (place 2 []) ∷ [])
-code-is = refl
 
 pub move-left-spec : {M : Type 1} → stated.statement M
 unfolding code.routine tablesOf

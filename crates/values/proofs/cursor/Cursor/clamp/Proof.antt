@@ -5,21 +5,21 @@ use Rattle.values.proofs.CursorLaws.{cursor-eq}
 use Rattle.values.proofs.cursor.Cursor.clamp.Statement.{statement}
 use Rattle.values.proofs.cursor.Cursor.clamp.Tie as tie
 
-sub-least : tie.Need-sub-least
-sub-least c = search needs
+sub-smaller : tie.Need-sub-smaller
+sub-smaller c = search needs
 
-least-requires : tie.Need-least-requires
-least-requires c κs = search needs
+smaller-requires : tie.Need-smaller-requires
+smaller-requires c κs = search needs
 
-sub-least-2 : tie.Need-sub-least-2
-sub-least-2 c = search needs
+sub-smaller-2 : tie.Need-sub-smaller-2
+sub-smaller-2 c = search needs
 
-least-requires-2 : tie.Need-least-requires-2
-least-requires-2 c κs = search needs
+smaller-requires-2 : tie.Need-smaller-requires-2
+smaller-requires-2 c κs = search needs
 
 returns : tie.Need-returns
 unfolding clamp
 returns c = search (needs, cursor-eq)
 
 pub clamp-spec : {M : Type 1} → statement M
-clamp-spec = tie.close (tie.spec sub-least least-requires sub-least-2 least-requires-2 returns)
+clamp-spec = tie.close (tie.spec sub-smaller smaller-requires sub-smaller-2 smaller-requires-2 returns)
