@@ -14,7 +14,7 @@ use Rattle.bytes.specs.Test.{every}
 use Rattle.bytes.proofs.Bools.{and-left, and-right, tests}
 use Rattle.grid.specs.Layout.{MASKS}
 use Rattle.grid.specs.Screen.{noRow, validHead, validRow}
-use Rattle.grid.specs.Record.{headAt, rowFrom}
+use Rattle.grid.specs.Record.{headAt}
 use Rattle.grid.specs.Facts.{HeadFacts}
 use Rattle.grid.specs.Conditions.{ValidRow}
 use Rattle.grid.proofs.Validity.{head-facts, head-valid}
@@ -70,17 +70,13 @@ kind-told b e = eqb-true _ _ (search (and-left, and-right) depth 8)
 
 -- ---- the rows
 
-row-in : (b : List ℕ) (n k : ℕ) → k < n
-    → getD (carriedRows n (drop ROWS b)) k noRow ≡ (let at = ROWS + ROW-SIZE * k in rowFrom (getD b at 0) b (at + 1) (at + 1 + 80))
-unfolding rowIn
-row-in b n k h = row-at ROWS n b k noRow h
-
 report-rows : (b : List ℕ) (w n : ℕ) → w ≤ 80 → length b ≡ ROWS + ROW-SIZE * n
     → (every (validRow w) (carriedRows n (drop ROWS b)) ≡ true)
     ↔ ((k : ℕ) → k < n → let at = ROWS + ROW-SIZE * k in ValidRow w b at (at + 1) (at + 1 + 80))
+unfolding rowIn
 report-rows b w n wide size =
     rows-conditions w n b (carriedRows n (drop ROWS b)) (λ k. ROWS + ROW-SIZE * k) (λ k. ROWS + ROW-SIZE * k + 1) (λ k. ROWS + ROW-SIZE * k + 1 + 80) wide
-    (length-rows-in n (drop ROWS b)) (λ k h. (omega arith, omega arith)) (row-in b n)
+    (length-rows-in n (drop ROWS b)) (λ k h. (omega arith, omega arith)) (λ k h. row-at ROWS n b k noRow h)
 
 -- ---- the report
 

@@ -94,7 +94,7 @@ macro_rules! calls {
 }
 
 // The table. A line has the call and its arguments, each with one that is in range on every screen; the exported function and what is lent
-// to it; the kind; the tag of new and changing calls, by which host/README.md and the crate `replay` know them, and which therefore stays;
+// to it; the kind; the tag of new and changing calls, by which docs/RECORDING.md and the crate `replay` know them, and which therefore stays;
 // the shortest output, if it has one.
 calls! {
     lent rec, out;
