@@ -24,21 +24,21 @@ extern "C" {
 /* ---- Lengths */
 
 /* Buffers of exactly these lengths. */
-#define FUTONROBIN_SCREEN_LEN 4042u
-#define FUTONROBIN_MIRROR_LEN 4049u
+#define FUTONROBIN_SCREEN_LEN 4046u
+#define FUTONROBIN_MIRROR_LEN 4057u
 #define FUTONROBIN_KEYS_LEN 160u
 
 /* The shortest outputs that are taken; longer ones are too. The output of keys_strip is exactly the width asked. */
 #define FUTONROBIN_LINE_MIN 255u
 #define FUTONROBIN_SNAPSHOT_MIN 2024u
-#define FUTONROBIN_REPORT_MIN 4043u
+#define FUTONROBIN_REPORT_MIN 4047u
 
 /*
  * Where the mirror's screen record begins: it is mir + FUTONROBIN_MIRROR_RECORD, of length FUTONROBIN_SCREEN_LEN. Reading and
  * text calls take it as any record, and no other call should be made on it: a changing call would be accepted, and the
  * mirror would then show what no screen had.
  */
-#define FUTONROBIN_MIRROR_RECORD 7u
+#define FUTONROBIN_MIRROR_RECORD 11u
 
 /* ---- Answers */
 
@@ -61,11 +61,20 @@ static inline int futonrobin_refusal(uint32_t answer)
     return answer > FUTONROBIN_REFUSED ? (int)(answer - FUTONROBIN_REFUSED) : 0;
 }
 
-/* ---- New screen: answers 0. Width 40 gives 40, all else 80. The buffer's old bytes are not read. */
+/*
+ * ---- New screen: answers 0. Width 40 gives 40, all else 80. The buffer's old bytes are not read.
+ *
+ * The sitting is the host's number for this screen, any of 32 bits; 0 is as good as another. After a restart the serial begins at 0
+ * again, so a new screen whose reports go to the same mirror gets a larger number than every one before it, and no number is
+ * used twice. A host without a mirror, or with a new mirror for every screen, can always pass 0.
+ */
 
-uint32_t screen_new(uint8_t *rec, size_t rec_len, uint32_t width);
+uint32_t screen_new(uint8_t *rec, size_t rec_len, uint32_t width, uint32_t sitting);
 
-/* ---- Changing calls: each adds 1 to the serial and answers 0, but screen_take_logical_line the length of its text. */
+/*
+ * ---- Changing calls: each adds 1 to the serial, keeps the sitting and answers 0, but screen_take_logical_line the length of
+ * its text.
+ */
 
 /* Prints at the cursor: 13, 10, and 13 followed by 10 are newlines, 27 and 32 to 255 are written, others are ignored. */
 uint32_t screen_print_bytes(uint8_t *rec, size_t rec_len, const uint8_t *bytes, size_t bytes_len);
@@ -140,17 +149,21 @@ uint32_t screen_snapshot(const uint8_t *rec, size_t rec_len, uint8_t *out, size_
 /* The rows that the last accepted changing call touched. To be made after each such call, before the next. */
 uint32_t report_step(const uint8_t *rec, size_t rec_len, uint8_t *out, size_t out_len);
 
-/* All 25 rows: for a mirror that missed a step. */
+/* All 25 rows: for a mirror that missed a step, or shows an earlier sitting. */
 uint32_t report_full(const uint8_t *rec, size_t rec_len, uint8_t *out, size_t out_len);
 
 /* ---- Mirror */
 
-/* Answers 0. The width is that given to screen_new; the buffer's old bytes are not read. */
-uint32_t mirror_new(uint8_t *mir, size_t mir_len, uint32_t width);
+/*
+ * Answers 0. Width and sitting are those given to screen_new for the first screen that the mirror is to follow; after a restart
+ * it stays in use. The buffer's old bytes are not read.
+ */
+uint32_t mirror_new(uint8_t *mir, size_t mir_len, uint32_t width, uint32_t sitting);
 
 /*
  * A report arrives, of exactly the length that the report call answered. Answers 1 if the mirror is then level (it shows the newest
- * state that it has heard of), else 0. A report that comes too early or too late is accepted and not shown.
+ * state that it has heard of), else 0. A full report is shown if it is later than what is shown: of a larger sitting, or of the
+ * same and a larger serial. A step is shown if it is the next one of the sitting that is shown. Others are accepted and not shown.
  */
 uint32_t mirror_arrive(uint8_t *mir, size_t mir_len, const uint8_t *report, size_t report_len);
 

@@ -1,5 +1,6 @@
 /*
- * A C host in short: a line is typed and changed on a screen of 40 columns, and a mirror follows by reports, one of which is lost.
+ * A C host in short: a line is typed and changed on a screen of 40 columns, and a mirror follows by reports, one of which comes late. Then
+ * the terminal restarts, and the mirror follows that too.
  *
  *   cc -std=c99 -Wall -Wextra -pedantic -Werror -Iinclude host/c/example.c target/staticlib/libapi.a -o example
  *
@@ -16,7 +17,11 @@ static uint8_t screen[FUTONROBIN_SCREEN_LEN];
 static uint8_t mirror[FUTONROBIN_MIRROR_LEN];
 static uint8_t report[FUTONROBIN_REPORT_MIN];
 
-enum line { ARRIVES, LOST };
+/* The report that the line holds back. */
+static uint8_t late[FUTONROBIN_REPORT_MIN];
+static uint32_t late_length;
+
+enum line { ARRIVES, COMES_LATE };
 
 /* Hands an accepted answer on. What this host asks is in order, so a refusal is a fault of its own. */
 static uint32_t accepted(const char *what, uint32_t answer)
@@ -29,9 +34,9 @@ static uint32_t accepted(const char *what, uint32_t answer)
     return answer;
 }
 
-static void arrive(const char *what, uint32_t length)
+static void arrive(const char *what, const uint8_t *bytes, uint32_t length)
 {
-    uint32_t level = accepted("mirror_arrive", mirror_arrive(mirror, sizeof mirror, report, length));
+    uint32_t level = accepted("mirror_arrive", mirror_arrive(mirror, sizeof mirror, bytes, length));
     printf("%-12s %4" PRIu32 " bytes, the mirror is %s\n", what, length, level == 1 ? "level" : "not level");
 }
 
@@ -41,11 +46,18 @@ static uint32_t changed(const char *what, uint32_t answer, enum line line)
     accepted(what, answer);
     uint32_t length = accepted("report_step", report_step(screen, sizeof screen, report, sizeof report));
     if (line == ARRIVES) {
-        arrive(what, length);
+        arrive(what, report, length);
     } else {
-        printf("%-12s %4" PRIu32 " bytes, lost\n", what, length);
+        memcpy(late, report, length);
+        late_length = length;
+        printf("%-12s %4" PRIu32 " bytes, held back\n", what, length);
     }
     return answer;
+}
+
+static void full_report(void)
+{
+    arrive("full report", report, accepted("report_full", report_full(screen, sizeof screen, report, sizeof report)));
 }
 
 /* Takes the screen's record and the mirror's alike. */
@@ -56,13 +68,14 @@ static void show(const char *whose, const uint8_t *rec)
     printf("-- the %s shows\n%.*s\n--\n", whose, (int)length, (const char *)text);
 }
 
-int main(void)
+static void first_sitting(void)
 {
     const char *heading = "Ward 3, Monday\r\n";
     uint8_t line[FUTONROBIN_LINE_MIN];
 
-    accepted("screen_new", screen_new(screen, sizeof screen, 40));
-    accepted("mirror_new", mirror_new(mirror, sizeof mirror, 40));
+    /* The mirror is new with the width and the sitting of the screen. */
+    accepted("screen_new", screen_new(screen, sizeof screen, 40, 1));
+    accepted("mirror_new", mirror_new(mirror, sizeof mirror, 40, 1));
 
     changed("heading", screen_print_bytes(screen, sizeof screen, (const uint8_t *)heading, strlen(heading)), ARRIVES);
     for (const char *c = "BED7"; *c != '\0'; c++) {
@@ -70,17 +83,36 @@ int main(void)
     }
     changed("left", screen_move_left(screen, sizeof screen), ARRIVES);
     changed("insert on", screen_set_insert(screen, sizeof screen, 1), ARRIVES);
-    changed("type a space", screen_type_char(screen, sizeof screen, ' '), LOST);
+    changed("type a space", screen_type_char(screen, sizeof screen, ' '), COMES_LATE);
     /* This step is early for the mirror: it shows what it had, and says that there is something newer. */
     changed("end of line", screen_end_of_line(screen, sizeof screen), ARRIVES);
     show("mirror", mirror + FUTONROBIN_MIRROR_RECORD);
-
-    arrive("full report", accepted("report_full", report_full(screen, sizeof screen, report, sizeof report)));
+    full_report();
 
     uint32_t length = changed("enter", screen_take_logical_line(screen, sizeof screen, line, sizeof line), ARRIVES);
     printf("the line is \"%.*s\"\n", (int)length, (const char *)line);
     show("screen", screen);
     show("mirror", mirror + FUTONROBIN_MIRROR_RECORD);
+}
+
+/* The terminal restarts: a new screen, in a sitting of a larger number. Its serials begin at 0 again. The mirror is the same. */
+static void second_sitting(void)
+{
+    accepted("screen_new", screen_new(screen, sizeof screen, 40, 2));
+    /* A step of a sitting that is not shown tells the mirror that there is something newer; a full report shows it. */
+    changed("type", screen_type_char(screen, sizeof screen, 'W'), ARRIVES);
+    full_report();
+    /* From then on steps are enough, and what comes late of the sitting before is old. */
+    changed("type", screen_type_char(screen, sizeof screen, '4'), ARRIVES);
+    arrive("late report", late, late_length);
+    show("mirror", mirror + FUTONROBIN_MIRROR_RECORD);
+}
+
+int main(void)
+{
+    first_sitting();
+    printf("restart\n");
+    second_sitting();
 
     /* Refused, and the screen is as it was: there is nothing to report. */
     uint32_t answer = screen_type_char(screen, sizeof screen, 256);

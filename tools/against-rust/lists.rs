@@ -21,9 +21,9 @@ fn claim(n: usize, list: &List, prefix: usize, answer: bool) -> String {
         .iter()
         .map(|sum| format!("{sum} ∷ "))
         .collect();
-    let width = list.first_width;
+    let (width, sitting) = (list.first_width, list.sitting);
     format!(
-        "\nlist-{n} : agrees (newState {width}) ({calls}[]) ({sums}[]) ≡ {answer}\n\
+        "\nlist-{n} : agrees (newState {width} {sitting}) ({calls}[]) ({sums}[]) ≡ {answer}\n\
          unfolding agrees\n\
          list-{n} = refl\n"
     )
@@ -34,7 +34,8 @@ fn shown(list: &List, prefix: usize) -> String {
     let calls: String = (1..=prefix)
         .map(|k| format!("{k:4} {:?}\n", list.calls[k - 1]))
         .collect();
-    format!("   0 new screen, width {}\n{calls}", list.first_width)
+    let (width, sitting) = (list.first_width, list.sitting);
+    format!("   0 new screen, width {width}, sitting {sitting}\n{calls}")
 }
 
 fn usage() -> ! {

@@ -5,11 +5,12 @@
 
 use super::calls::Call::{self, *};
 use super::chance::Chance;
-use super::seen::{rows_of, seen, touched, ROWS};
+use super::seen::{rows_of, seen, touched, Stamp, ROWS};
 use crate::screen::Screen;
 
 pub struct List {
     pub first_width: usize,
+    pub sitting: u32,
     pub calls: Vec<Call>,
     /// What is seen of the new screen, and after each call.
     pub sums: Vec<u64>,
@@ -23,11 +24,19 @@ impl List {
     pub fn new(seed: usize, n: usize, length: usize, fixed_width: Option<usize>) -> List {
         let mut chance = Chance::new(seed, n);
         let first_width = fixed_width.unwrap_or(chance.one_of(&[40, 80]));
+        let any = chance.below(1 << 32) as u32;
+        let sitting = chance.one_of(&[0, 1, 256, u32::MAX, any, any]);
         let screen = Screen::new(first_width);
+        let stamp = Stamp {
+            sitting,
+            serial: 0,
+            touched: 0,
+        };
         let mut list = List {
             first_width,
+            sitting,
             calls: Vec::new(),
-            sums: vec![seen(&screen, &rows_of(&screen), 0, &[])],
+            sums: vec![seen(&screen, &rows_of(&screen), &stamp, &[])],
             length,
             fixed_width,
             screen,
@@ -47,10 +56,14 @@ impl List {
         let before = rows_of(&self.screen);
         let submitted = call.make(&mut self.screen);
         let after = rows_of(&self.screen);
-        let touched = touched(&before, &after);
-        self.sums
-            .push(seen(&self.screen, &after, touched, &submitted));
         self.calls.push(call);
+        let stamp = Stamp {
+            sitting: self.sitting,
+            serial: self.calls.len(),
+            touched: touched(&before, &after),
+        };
+        self.sums
+            .push(seen(&self.screen, &after, &stamp, &submitted));
     }
 
     fn scene(&mut self) {

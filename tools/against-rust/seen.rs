@@ -37,8 +37,15 @@ pub fn touched(before: &[Row], after: &[Row]) -> u64 {
     (0..ROWS).fold(0, |mask, r| mask | u64::from(before[r] != after[r]) << r)
 }
 
+/// What the Rust does not have: the sitting is kept by every call, the serial counts them.
+pub struct Stamp {
+    pub sitting: u32,
+    pub serial: usize,
+    pub touched: u64,
+}
+
 /// All that can be seen of a screen after a call, in the order of `seen` in `agrees.antt.txt`.
-pub fn seen(screen: &Screen, rows: &[Row], touched: u64, submitted: &[u8]) -> u64 {
+pub fn seen(screen: &Screen, rows: &[Row], stamp: &Stamp, submitted: &[u8]) -> u64 {
     let (row, col) = screen.cursor();
     let mut items = vec![
         sum_of_bytes(submitted),
@@ -48,7 +55,9 @@ pub fn seen(screen: &Screen, rows: &[Row], touched: u64, submitted: &[u8]) -> u6
         u64::from(screen.insert_mode()),
         u64::from(screen.keys_visible()),
         u64::from(screen.attr()),
-        touched,
+        u64::from(stamp.sitting),
+        stamp.serial as u64,
+        stamp.touched,
         sum_of_bytes(&bytes_of(&screen.logical_text())),
         sum_of_bytes(&bytes_of(&screen.snapshot())),
     ];

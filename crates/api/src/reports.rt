@@ -19,10 +19,10 @@ pub extern "C" fn report_full(rec: &[u8], out: &mut [u8]) -> u32
 }
 
 #[no_mangle]
-pub extern "C" fn mirror_new(mir: &mut [u8], width: u32) -> u32
-    ensures { λ n. ⌜ Writes (creatingMirror width (now (mir .entry))) n (now (mir .exit)) ⌝ }
+pub extern "C" fn mirror_new(mir: &mut [u8], width: u32, sitting: u32) -> u32
+    ensures { λ n. ⌜ Writes (creatingMirror width sitting (now (mir .entry))) n (now (mir .exit)) ⌝ }
 {
-    mirror::mirror::mirror_new(mir, width)
+    mirror::mirror::mirror_new(mir, width, sitting)
 }
 
 #[no_mangle]

@@ -7,10 +7,10 @@ ghost use Rattle.editor.specs.Outcome.{creating, asking, texting, AskWidth, Ask
 ghost use Rattle.bytes.specs.Answer.{Writes};
 
 #[no_mangle]
-pub extern "C" fn screen_new(rec: &mut [u8], width: u32) -> u32
-    ensures { λ n. ⌜ Writes (creating width (now (rec .entry))) n (now (rec .exit)) ⌝ }
+pub extern "C" fn screen_new(rec: &mut [u8], width: u32, sitting: u32) -> u32
+    ensures { λ n. ⌜ Writes (creating width sitting (now (rec .entry))) n (now (rec .exit)) ⌝ }
 {
-    fresh::new_screen(rec, width)
+    fresh::new_screen(rec, width, sitting)
 }
 
 #[no_mangle]

@@ -71,3 +71,12 @@ four-bytes l i b h =
     let byte : (j : ℕ) → j < length l → getD l j 0 < 256 = λ j k. isByte-lt l j b k in
     let f = four-back _ _ _ _ (byte i (omega arith)) (byte (i + 1) (omega arith)) (byte (i + 2) (omega arith)) (byte (i + 3) (omega arith)) in
     λ j. f .0 j ∷ f .1 j ∷ f .2 j ∷ f .3 j ∷ []
+
+pub four-lt : (l : List ℕ) (i : ℕ) → every isByte l ≡ true → i + 4 ≤ length l → fourAt l i < 4294967296
+four-lt l i b h =
+    let byte : (k : ℕ) → k < length l → getD l k 0 < 256 = λ k p. isByte-lt l k b p in
+    let p = byte i (omega arith) in
+    let q = byte (i + 1) (omega arith) in
+    let r = byte (i + 2) (omega arith) in
+    let s = byte (i + 3) (omega arith) in
+    omega arith

@@ -1,7 +1,7 @@
 -- A changing call: what is so where it is accepted, and what it answers and leaves. The laws are the same for each call c.
 -- k is what `change_refused` has answered, l the lent record, old a copy of it, m what the call's work has left, h the head that it has handed back.
 -- Assumes nothing.
-use Prim.Native.Nat.{ℕ, _+_, _≤_}
+use Prim.Native.Nat.{ℕ, _≤_}
 use mathlib.Core.Path.{_≡_, refl, sym, ap, ap₂, _∙_, subst}
 use mathlib.Core.Bool.{Bool, true}
 use mathlib.Core.List.{List, [], _∷_, _++_}
@@ -19,8 +19,9 @@ use Rattle.bytes.proofs.WidthLaws.{width-cases, width-to}
 use Rattle.bytes.proofs.Found.{else-none, refused-none, refusal-some, refusal-number}
 use Rattle.bytes.proofs.Bools.{pick, skip}
 use Rattle.grid.specs.Layout.{SIZE, FLAGS}
+use Rattle.grid.specs.Pair.{nextPair}
 use Rattle.grid.specs.Screen.{touchedRows}
-use Rattle.grid.specs.Record.{rowsOf, screenOf, serialOf, stampOf, readState, stateBytes, frontBytes, Leaves, Moves}
+use Rattle.grid.specs.Record.{rowsOf, screenOf, pairOf, serialOf, stampOf, readState, stateBytes, frontBytes, Leaves, Moves}
 use Rattle.grid.specs.Facts.{HeadFits, Valid}
 use Rattle.grid.specs.declared.head.Head.{Head}
 use Rattle.grid.specs.Refusals.{recordTests}
@@ -112,12 +113,12 @@ module _ (c : Call) (l : List ℕ) (o k : ℕ) (io : o ≡ refusedWith (firstOf 
   module _ (zero : k ≡ 0) where
     -- the state that the call leaves, from its rows and its head
     state-left : (h : Head) (m n : List ℕ) (touched : ℕ) → rowsOf m ≡ apply c (screenOf l) .rows → length m ≡ SIZE → h ≡ apply c (screenOf l) .head
-        → touched ≡ touchedRows (rowsOf l) (apply c (screenOf l) .rows) → n ≡ frontBytes h (record { serial = serialOf l + 1; touched = touched }) ++ drop FLAGS m
+        → touched ≡ touchedRows (rowsOf l) (apply c (screenOf l) .rows) → n ≡ frontBytes h (record { pair = nextPair (pairOf l); touched = touched }) ++ drop FLAGS m
         → n ≡ stateBytes (step c (readState l))
     unfolding step readState stampOf
     state-left h m n touched rows size head et e =
-        left-bytes m n h (apply c (screenOf l) .rows) (record { serial = serialOf l + 1; touched = touched }) size rows e
-        ∙ ap₂ (λ (g : Head) (u : ℕ). stateBytes (record { screen = record { head = g; rows = apply c (screenOf l) .rows }; stamp = record { serial = serialOf l + 1; touched = u } })) head et
+        left-bytes m n h (apply c (screenOf l) .rows) (record { pair = nextPair (pairOf l); touched = touched }) size rows e
+        ∙ ap₂ (λ (g : Head) (u : ℕ). stateBytes (record { screen = record { head = g; rows = apply c (screenOf l) .rows }; stamp = record { pair = nextPair (pairOf l); touched = u } })) head et
 
     head-kept : (h : Head) → h ≡ apply c (screenOf l) .head → HeadFits h
     head-kept h e =
@@ -129,14 +130,14 @@ module _ (c : Call) (l : List ℕ) (o k : ℕ) (io : o ≡ refusedWith (firstOf 
       pub leaves-fits : HeadFits h
       leaves-fits = head-kept h (left .head)
 
-      pub leaves-state : (n : List ℕ) → n ≡ frontBytes h (record { serial = serialOf old + 1; touched = touchedRows (rowsOf old) (rowsOf m) }) ++ drop FLAGS m
+      pub leaves-state : (n : List ℕ) → n ≡ frontBytes h (record { pair = nextPair (pairOf old); touched = touchedRows (rowsOf old) (rowsOf m) }) ++ drop FLAGS m
           → n ≡ stateBytes (step c (readState l))
       leaves-state n e =
           state-left h m n (touchedRows (rowsOf l) (rowsOf m)) (left .becomes .rows) (left .becomes .size) (left .head)
           (ap (touchedRows (rowsOf l)) (left .becomes .rows)) (rw copy at e)
 
       pub call-done : (n : List ℕ) (v : ℕ) → v ≡ answer c (screenOf l)
-          → n ≡ frontBytes h (record { serial = serialOf old + 1; touched = touchedRows (rowsOf old) (rowsOf m) }) ++ drop FLAGS m → Answers (changing c l) v n
+          → n ≡ frontBytes h (record { pair = nextPair (pairOf old); touched = touchedRows (rowsOf old) (rowsOf m) }) ++ drop FLAGS m → Answers (changing c l) v n
       call-done n v ev e = rw (outcome-done zero) (record { number = ev; left = leaves-state n e })
 
     -- a call whose work reads the copy
@@ -148,7 +149,7 @@ module _ (c : Call) (l : List ℕ) (o k : ℕ) (io : o ≡ refusedWith (firstOf 
       copied-fits = leaves-fits old m copy h here
 
       pub copied-done : (n : List ℕ) (v : ℕ) → v ≡ answer c (screenOf l)
-          → n ≡ frontBytes h (record { serial = serialOf old + 1; touched = touchedRows (rowsOf old) (rowsOf m) }) ++ drop FLAGS m → Answers (changing c l) v n
+          → n ≡ frontBytes h (record { pair = nextPair (pairOf old); touched = touchedRows (rowsOf old) (rowsOf m) }) ++ drop FLAGS m → Answers (changing c l) v n
       copied-done n v ev e = call-done old m copy h here n v ev e
 
     -- `tab`, which also writes heads on the way
@@ -157,7 +158,7 @@ module _ (c : Call) (l : List ℕ) (o k : ℕ) (io : o ≡ refusedWith (firstOf 
       ends-fits = head-kept h (ends .head)
 
       pub ends-done : (n : List ℕ) (v : ℕ) → v ≡ answer c (screenOf l)
-          → n ≡ frontBytes h (record { serial = serialOf old + 1; touched = touchedRows (rowsOf old) (rowsOf m) }) ++ drop FLAGS m → Answers (changing c l) v n
+          → n ≡ frontBytes h (record { pair = nextPair (pairOf old); touched = touchedRows (rowsOf old) (rowsOf m) }) ++ drop FLAGS m → Answers (changing c l) v n
       ends-done n v ev e =
           rw (outcome-done zero)
           (record {
@@ -172,7 +173,7 @@ module _ (c : Call) (l : List ℕ) (o k : ℕ) (io : o ≡ refusedWith (firstOf 
       pub moves-fits : HeadFits h
       moves-fits = head-kept h (moves .head)
 
-      pub move-done : (n : List ℕ) (v : ℕ) → v ≡ answer c (screenOf l) → n ≡ frontBytes h (record { serial = serialOf l + 1; touched = 0 }) ++ drop FLAGS l
+      pub move-done : (n : List ℕ) (v : ℕ) → v ≡ answer c (screenOf l) → n ≡ frontBytes h (record { pair = nextPair (pairOf l); touched = 0 }) ++ drop FLAGS l
           → Answers (changing c l) v n
       move-done n v ev e =
           let f = going c l (none zero) in

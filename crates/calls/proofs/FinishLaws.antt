@@ -1,19 +1,35 @@
 -- `finish`: the end of a changing call.
 -- Assumes nothing.
 use Prim.Native.Nat.{ℕ, _+_}
-use mathlib.Core.Path.{_≡_, ap, ap₂, _∙_}
+use mathlib.Core.Path.{_≡_, sym, ap, ap₂, _∙_}
 use mathlib.Core.List.{List, _++_}
+use mathlib.Core.Logic.{_≢_}
+use native.Mathlib.Omega.{arith}
+use mir.Syntax.{w32}
+use mir.Val.{Fits}
 use lib.ListN.{drop}
 use Rattle.grid.specs.Layout.{FLAGS}
+use Rattle.grid.specs.Pair.{nextPair}
 use Rattle.grid.specs.Screen.{touchedRows}
-use Rattle.grid.specs.Record.{rowsOf, serialOf, frontBytes}
+use Rattle.grid.specs.Record.{rowsOf, pairOf, serialOf, frontBytes}
 use Rattle.grid.specs.declared.head.Head.{Head}
+use Rattle.grid.specs.declared.pair.Pair.{Pair}
+use Rattle.editor.specs.Outcome.{LAST-SERIAL}
 
-pub finished : (l m n : List ℕ) (h : Head) (serial touched : ℕ) → serial ≡ serialOf l → touched ≡ touchedRows (rowsOf l) (rowsOf m)
-    → n ≡ frontBytes h (record { serial = serial + 1; touched = touched }) ++ drop FLAGS m
-    → n ≡ frontBytes h (record { serial = serialOf l + 1; touched = touchedRows (rowsOf l) (rowsOf m) }) ++ drop FLAGS m
-finished l m n h serial touched es et e = e ∙ ap₂ (λ (x y : ℕ). frontBytes h (record { serial = x + 1; touched = y }) ++ drop FLAGS m) es et
+pub next-fits : (l : List ℕ) (p : Pair) → p ≡ pairOf l → (serialOf l ≡ LAST-SERIAL → ⊥) → Fits w32 (p .serial) → Fits w32 (p .serial + 1)
+next-fits l p e last f =
+    let n : p .serial ≢ LAST-SERIAL = λ q. last (ap (λ (x : Pair). x .serial) (sym e) ∙ q) in
+    record { fits = omega (arith, f .fits) }
 
-pub finished-move : (l n : List ℕ) (h : Head) (serial : ℕ) → serial ≡ serialOf l → n ≡ frontBytes h (record { serial = serial + 1; touched = 0 }) ++ drop FLAGS l
-    → n ≡ frontBytes h (record { serial = serialOf l + 1; touched = 0 }) ++ drop FLAGS l
-finished-move l n h serial es e = e ∙ ap (λ (x : ℕ). frontBytes h (record { serial = x + 1; touched = 0 }) ++ drop FLAGS l) es
+pub next-read : (l : List ℕ) (p : Pair) → p ≡ pairOf l → _≡_ {A = Pair} (record { sitting = p .sitting; serial = p .serial + 1 }) (nextPair (pairOf l))
+unfolding nextPair
+next-read l p e = ap nextPair e
+
+pub finished : (l m n : List ℕ) (h : Head) (p : Pair) (touched : ℕ) → p ≡ nextPair (pairOf l) → touched ≡ touchedRows (rowsOf l) (rowsOf m)
+    → n ≡ frontBytes h (record { pair = p; touched = touched }) ++ drop FLAGS m
+    → n ≡ frontBytes h (record { pair = nextPair (pairOf l); touched = touchedRows (rowsOf l) (rowsOf m) }) ++ drop FLAGS m
+finished l m n h p touched ep et e = e ∙ ap₂ (λ (x : Pair) (y : ℕ). frontBytes h (record { pair = x; touched = y }) ++ drop FLAGS m) ep et
+
+pub finished-move : (l n : List ℕ) (h : Head) (p : Pair) → p ≡ nextPair (pairOf l) → n ≡ frontBytes h (record { pair = p; touched = 0 }) ++ drop FLAGS l
+    → n ≡ frontBytes h (record { pair = nextPair (pairOf l); touched = 0 }) ++ drop FLAGS l
+finished-move l n h p ep e = e ∙ ap (λ (x : Pair). frontBytes h (record { pair = x; touched = 0 }) ++ drop FLAGS l) ep

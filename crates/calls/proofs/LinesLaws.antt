@@ -1,6 +1,6 @@
 -- `lines`: `take_logical_line`, which hands out a text. n is what `change_refused` has answered, t the reading of the line under the cursor.
 -- Assumes nothing.
-use Prim.Native.Nat.{ℕ, _+_, _≤_}
+use Prim.Native.Nat.{ℕ, _≤_}
 use mathlib.Core.Path.{_≡_, refl, ap, _∙_, subst}
 use mathlib.Core.List.{List, _++_}
 use mathlib.Core.Logic.{_≢_}
@@ -10,8 +10,9 @@ use borrow.Author.Tests.{leb-true}
 use Rattle.bytes.specs.Answer.{over, wrote, Writes}
 use Rattle.bytes.specs.Refusals.{firstOf, refusedWith}
 use Rattle.grid.specs.Layout.{FLAGS}
+use Rattle.grid.specs.Pair.{nextPair}
 use Rattle.grid.specs.Screen.{touchedRows}
-use Rattle.grid.specs.Record.{rowsOf, screenOf, serialOf, frontBytes, Leaves}
+use Rattle.grid.specs.Record.{rowsOf, screenOf, pairOf, frontBytes, Leaves}
 use Rattle.grid.specs.Facts.{HeadFits}
 use Rattle.grid.specs.declared.head.Head.{Head}
 use Rattle.line.specs.Line.{MAX-LOGICAL, lineText}
@@ -49,7 +50,7 @@ module _ (l out : List ℕ) (n : ℕ) (is : n ≡ changeAnswer (leb MAX-LOGICAL 
       take-fits = copied-fits (TakeLogicalLine out) l 0 n own-is is′ zero old m copy h left
 
       pub take-done : (t : Reading) (v : ℕ) (r out′ : List ℕ) → Reads t (lineText (screenOf old))
-          → r ≡ frontBytes h (record { serial = serialOf old + 1; touched = touchedRows (rowsOf old) (rowsOf m) }) ++ drop FLAGS m
+          → r ≡ frontBytes h (record { pair = nextPair (pairOf old); touched = touchedRows (rowsOf old) (rowsOf m) }) ++ drop FLAGS m
           → Writes (wrote (take (t .len) (t .bytes)) out) v out′ → Submits (changing (TakeLogicalLine out) l) v r out′
       unfolding apply submitted answer output rule wrote
       take-done t v r out′ reads e w =

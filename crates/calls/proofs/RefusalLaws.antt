@@ -10,8 +10,9 @@ use Rattle.bytes.specs.Choice.{if_then_else_}
 use Rattle.bytes.specs.Answer.{refused}
 use Rattle.bytes.specs.Refusals.{firstOf, refusedWith, orElse}
 use Rattle.bytes.proofs.Found.{ordered, ordered-left, ordered-right, answer-append, else-here, else-past, else-none, refused-zero}
-use Rattle.grid.specs.Record.{serialOf, screenOf}
+use Rattle.grid.specs.Record.{pairOf, serialOf, screenOf}
 use Rattle.grid.specs.Refusals.{recordTests}
+use Rattle.grid.specs.declared.pair.Pair.{Pair}
 use Rattle.grid.proofs.RefusalLaws.{record-ordered, range-tested}
 use Rattle.editor.specs.Call.{Call, lengths, own}
 use Rattle.editor.specs.Outcome.{LAST-SERIAL, serialTests, changeTests}
@@ -32,13 +33,13 @@ module _ (long : Bool) (l : List ℕ) (o n : ℕ) (is : n ≡ refusedWith (first
   pub refused-own : n ≡ 0 → o ≢ 0 → o ≡ changeAnswer long o l
   refused-own z ne = past z o (else-here _ _ ne)
 
-  pub refused-serial : (serial : ℕ) → n ≡ 0 → o ≡ 0 → serial ≡ serialOf l → serial ≡ LAST-SERIAL → refused 4 ≡ changeAnswer long o l
+  pub refused-serial : (p : Pair) → n ≡ 0 → o ≡ 0 → p ≡ pairOf l → p .serial ≡ LAST-SERIAL → refused 4 ≡ changeAnswer long o l
   unfolding serialTests firstOf refusedWith if_then_else_
-  refused-serial serial z y es e = past z (refused 4) (rw (eq-eqb (serialOf l) LAST-SERIAL (sym es ∙ e)) (else-past o _ y))
+  refused-serial p z y ep e = past z (refused 4) (rw (eq-eqb (serialOf l) LAST-SERIAL (ap (λ (x : Pair). x .serial) (sym ep) ∙ e)) (else-past o _ y))
 
-  pub refused-not : (serial : ℕ) → n ≡ 0 → o ≡ 0 → serial ≡ serialOf l → serial ≢ LAST-SERIAL → 0 ≡ changeAnswer long o l
+  pub refused-not : (p : Pair) → n ≡ 0 → o ≡ 0 → p ≡ pairOf l → p .serial ≢ LAST-SERIAL → 0 ≡ changeAnswer long o l
   unfolding serialTests firstOf refusedWith if_then_else_
-  refused-not serial z y es ne = past z 0 (rw (ne-eqb (serialOf l) LAST-SERIAL (λ q. ne (es ∙ q))) (else-past o _ y))
+  refused-not p z y ep ne = past z 0 (rw (ne-eqb (serialOf l) LAST-SERIAL (λ q. ne (ap (λ (x : Pair). x .serial) ep ∙ q))) (else-past o _ y))
 
 -- ---- the tests of a call: o is what its own refusals answer
 

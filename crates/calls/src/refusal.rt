@@ -18,7 +18,8 @@ pub fn change_refused(rec: &[u8], lengths: bool, own: u32) -> u32
     if own != 0 {
         return own;
     }
-    if grid::head::read_serial(rec) == LAST_SERIAL {
+    let p = grid::head::read_pair(rec);
+    if p.serial == LAST_SERIAL {
         return REFUSED + 4;
     }
     0

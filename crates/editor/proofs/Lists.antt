@@ -6,21 +6,23 @@ use mathlib.Core.Path.{_≡_, sym, ap, _∙_, subst, refl}
 use mathlib.Core.Bool.{true, false, Bool}
 use mathlib.Core.List.{List, [], _∷_}
 use native.Mathlib.Omega.{arith}
-use lib.ListN.{length, getD, take}
+use lib.ListN.{length, take}
 use mathlib.Core.Logic.{_≢_}
 use Rattle.bytes.specs.Answer.{isRefusal}
-use Rattle.grid.specs.Layout.{SIZE, SERIAL, MASKS}
+use Rattle.grid.specs.Layout.{PAIR, MASKS, SERIALS}
 use Rattle.grid.specs.Screen.{Row, State, number, differing, touchedRows, newState}
-use Rattle.grid.specs.Record.{serialOf, stampOf, readState, stateBytes}
+use Rattle.grid.specs.Pair.{nextPair}
+use Rattle.grid.specs.Record.{pairOf, stampOf, readState, stateBytes}
 use Rattle.bytes.specs.Test.{every, isByte}
-use Rattle.bytes.proofs.NumberLaws.{isByte-lt}
+use Rattle.grid.proofs.PairLaws.{pair-fits}
 use Rattle.grid.specs.Conditions.{ValidRecord}
 use Rattle.grid.specs.Facts.{RowsFacts, StateFacts, Valid}
 use Rattle.bytes.proofs.Bools.{cases}
-use Rattle.grid.proofs.Bytes.{state-back, serial-back, state-valid, bytes-back}
+use Rattle.grid.proofs.Bytes.{state-back, pair-back, state-valid, bytes-back}
 use Rattle.grid.proofs.TouchedLaws.{number-lt, length-differing}
 use Rattle.grid.proofs.Validity.{screen-facts, screen-valid}
 use Rattle.grid.proofs.Conditions.{conditions-record, record-facts}
+use Rattle.grid.specs.declared.pair.Pair.{Pair}
 use Rattle.editor.specs.Call.{Call, inRange, step}
 use Rattle.editor.specs.Outcome.{LAST-SERIAL, Outcome, changing}
 use Rattle.editor.proofs.KeptCall.{apply-facts}
@@ -38,12 +40,12 @@ touched-lt {old = old} {new = new} f g =
     subst (λ (i : ℕ). number (differing old new) < 2 ^ i) n (number-lt (differing old new))
 
 module _ (c : Call) (t : State) (f : StateFacts t) where
-  pub state-step : inRange c (t .screen) ≡ true → t .stamp .serial < LAST-SERIAL → StateFacts (step c t)
-  unfolding step
+  pub state-step : inRange c (t .screen) ≡ true → t .stamp .pair .serial < LAST-SERIAL → StateFacts (step c t)
+  unfolding step nextPair
   state-step r h =
       let old = screen-facts (t .screen) (f .screen) in
       let new = apply-facts c (t .screen) r old in
-      record { serial = omega arith; touched = touched-lt (old .rows) (new .rows); screen = screen-valid _ new }
+      record { pair = record { sitting = f .pair .sitting; serial = omega arith }; touched = touched-lt (old .rows) (new .rows); screen = screen-valid _ new }
 
 -- ---- one call
 
@@ -61,7 +63,7 @@ change-accepted c t f r =
     let g = going c (stateBytes t) (change-none c (stateBytes t) h) in
     let back = state-back t f in
     let range : inRange c (t .screen) ≡ true = ap (λ (x : State). inRange c (x .screen)) (sym back) ∙ g .in-range in
-    let serial : t .stamp .serial ≢ LAST-SERIAL = λ q. g .serial (serial-back t f ∙ q) in
+    let serial : t .stamp .pair .serial ≢ LAST-SERIAL = λ q. g .serial (ap (λ (p : Pair). p .serial) (pair-back t f) ∙ q) in
     record {
       left = ap (λ (o : Outcome). o .rec) (changing-answers c (stateBytes t) .done h) ∙ ap (λ (x : State). stateBytes (step c x)) back;
       facts = state-step c t f range (omega (arith, f));
@@ -70,14 +72,9 @@ change-accepted c t f r =
 -- ---- a call on a valid record leaves a valid record
 
 state-of : (l : List ℕ) → Valid l → every isByte l ≡ true → StateFacts (readState l)
-unfolding readState stampOf serialOf
+unfolding readState stampOf pairOf
 state-of l v b =
-    let at : (i : ℕ) → i < SIZE → getD l i 0 < 256 = λ i h. isByte-lt l i b (omega (arith, v .size)) in
-    let a = at SERIAL (omega arith) in
-    let b = at (SERIAL + 1) (omega arith) in
-    let c = at (SERIAL + 2) (omega arith) in
-    let d = at (SERIAL + 3) (omega arith) in
-    record { serial = omega arith; touched = v .touched; screen = screen-valid _ (v .screen) }
+    record { pair = pair-fits l PAIR b (omega (arith, v .size)); touched = v .touched; screen = screen-valid _ (v .screen) }
 
 pub valid-kept : (c : Call) (l : List ℕ) → every isByte l ≡ true → ValidRecord l → ValidRecord (changing c l .rec)
 valid-kept c l b v = go (isRefusal (changing c l .number)) refl
@@ -90,12 +87,27 @@ valid-kept c l b v = go (isRefusal (changing c l .number)) refl
         let p = change-accepted c (readState l) (state-of l w b) (ap (λ (x : List ℕ). isRefusal (changing c x .number)) back ∙ e) in
         subst ValidRecord (ap (λ (x : List ℕ). changing c x .rec) back) (subst ValidRecord (sym (p .left)) (record-facts _ (state-valid _ (p .facts))))
 
+-- and the next serial of the same sitting
+pub pair-kept : (c : Call) (l : List ℕ) → every isByte l ≡ true → ValidRecord l → isRefusal (changing c l .number) ≡ false
+    → pairOf (changing c l .rec) ≡ record { sitting = pairOf l .sitting; serial = pairOf l .serial + 1 }
+unfolding step nextPair readState stampOf
+pair-kept c l b v e =
+    let w = conditions-record l v in
+    let back = bytes-back l w b in
+    let p = change-accepted c (readState l) (state-of l w b) (ap (λ (x : List ℕ). isRefusal (changing c x .number)) back ∙ e) in
+    ap (λ (x : List ℕ). pairOf (changing c x .rec)) (sym back) ∙ ap pairOf (p .left) ∙ pair-back _ (p .facts)
+
 -- ---- accepted calls, from any state
 
-pub steps-serial : (ds : List Call) (t : State) → steps ds t .stamp .serial ≡ t .stamp .serial + length ds
-unfolding steps step
+pub steps-serial : (ds : List Call) (t : State) → steps ds t .stamp .pair .serial ≡ t .stamp .pair .serial + length ds
+unfolding steps step nextPair
 steps-serial [] t = omega arith
 steps-serial (d ∷ ds) t = omega (arith, steps-serial ds (step d t))
+
+pub steps-sitting : (ds : List Call) (t : State) → steps ds t .stamp .pair .sitting ≡ t .stamp .pair .sitting
+unfolding steps step nextPair
+steps-sitting [] t = refl
+steps-sitting (d ∷ ds) t = steps-sitting ds (step d t)
 
 pub steps-screen : (ds : List Call) (t : State) → steps ds t .screen ≡ screenLeft (t .screen) ds
 unfolding steps step screenLeft
@@ -144,6 +156,6 @@ calls-facts (suc m) (c ∷ cs) t f =
     (λ e. rw (change-refused c (stateBytes t) e) (calls-facts (suc m) cs t f))
     (λ e. let p = change-accepted c t f e in rw (p .left) (calls-facts m cs (step c t) (p .facts)))
 
-pub new-facts : (w : ℕ) → StateFacts (newState w)
+pub new-facts : (w sitting : ℕ) → sitting < SERIALS → StateFacts (newState w sitting)
 unfolding newState
-new-facts w = record { serial = omega arith; touched = omega arith; screen = screen-valid _ (new-screen w) }
+new-facts w sitting h = record { pair = record { sitting = h; serial = omega arith }; touched = omega arith; screen = screen-valid _ (new-screen w) }

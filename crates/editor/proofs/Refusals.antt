@@ -192,7 +192,7 @@ going c l e =
 
 -- ---- new screen
 
-module _ (w : ℕ) (l : List ℕ) where
+module _ (w sitting : ℕ) (l : List ℕ) where
   new-sound : (k : ℕ) → First ((1, eqb (length l) SIZE) ∷ []) k → NewRefused l k
   new-sound k (now e) = new-length (eqb-false _ _ e)
   new-sound k (later e f) = none-first f
@@ -200,13 +200,13 @@ module _ (w : ℕ) (l : List ℕ) where
   new-whole : (k : ℕ) → NewRefused l k → Fails ((1, eqb (length l) SIZE) ∷ []) k
   new-whole k (new-length n) = here (ne-eqb _ _ n)
 
-  pub creating-answers : CreatingAnswers w l
+  pub creating-answers : CreatingAnswers w sitting l
   unfolding creating unless
   creating-answers =
       let a =
       answered (λ (o : Written). o .number)
       (found (NewRefused l) ((1, eqb (length l) SIZE) ∷ []) (unfold ordered placeIn order if_then_else_ in refl) new-sound new-whole)
-      (record { number = 0; bytes = stateBytes (newState w) }) (record { number = refused _; bytes = l }) (λ e. omega arith) refl in
+      (record { number = 0; bytes = stateBytes (newState w sitting) }) (record { number = refused _; bytes = l }) (λ e. omega arith) refl in
       record { number = a .refuses; kept = λ h. ap (λ (o : Written). o .bytes) (a .kept h); done = a .done }
 
 -- ---- reading calls

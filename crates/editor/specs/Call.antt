@@ -1,11 +1,12 @@
 -- The 24 changing calls, and what an accepted one does to what a record holds.
 -- Assumes nothing.
-use Prim.Native.Nat.{ℕ, _+_}
+use Prim.Native.Nat.{ℕ}
 use mathlib.Core.Bool.{Bool, true}
 use mathlib.Core.List.{List, [], _∷_}
 use lib.Dec.{leb}
 use lib.ListN.{length}
 use Rattle.bytes.specs.Refusals.{allPass}
+use Rattle.grid.specs.Pair.{nextPair}
 use Rattle.grid.specs.Screen.{Screen, State, moveTo, editable, touchedRows}
 use Rattle.values.specs.Cursor.{at, home, left, right, up, down, clamp}
 use Rattle.values.specs.Attr.{attrOf}
@@ -110,8 +111,8 @@ answer c s = rule c .answer s
 
 -- ---- an accepted call
 
--- the serial goes up by 1, and the touched rows are those that differ
+-- the serial goes up by 1 in the same sitting, and the touched rows are those that differ
 unfoldable pub step : Call → State → State
 step c t =
     let s = apply c (t .screen) in
-    record { screen = s; stamp = record { serial = t .stamp .serial + 1; touched = touchedRows (t .screen .rows) (s .rows) } }
+    record { screen = s; stamp = record { pair = nextPair (t .stamp .pair); touched = touchedRows (t .screen .rows) (s .rows) } }

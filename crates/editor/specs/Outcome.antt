@@ -47,8 +47,8 @@ changing c l =
 -- ---- new screen
 
 -- the old bytes are not read, so their length alone can be refused
-unfoldable pub creating : ℕ → List ℕ → Written
-creating w l = unless (firstOf ((1, eqb (length l) SIZE) ∷ [])) l (record { number = 0; bytes = stateBytes (newState w) })
+unfoldable pub creating : ℕ → ℕ → List ℕ → Written
+creating w sitting l = unless (firstOf ((1, eqb (length l) SIZE) ∷ [])) l (record { number = 0; bytes = stateBytes (newState w sitting) })
 
 -- ---- reading calls, which answer a number and change nothing
 

@@ -57,10 +57,10 @@ pub record ChangingAnswers (c : Call) (l : List ℕ) : Type 0 where
 pub data NewRefused (l : List ℕ) : ℕ → Type 0 where
   record-length : length l ≢ SIZE → NewRefused l 1
 
-pub record CreatingAnswers (w : ℕ) (l : List ℕ) : Type 0 where
-  pub number : Refuses (NewRefused l) (creating w l .number)
-  pub kept : refused 1 ≤ creating w l .number → creating w l .bytes ≡ l
-  pub done : creating w l .number < refused 1 → creating w l ≡ record { number = 0; bytes = stateBytes (newState w) }
+pub record CreatingAnswers (w sitting : ℕ) (l : List ℕ) : Type 0 where
+  pub number : Refuses (NewRefused l) (creating w sitting l .number)
+  pub kept : refused 1 ≤ creating w sitting l .number → creating w sitting l .bytes ≡ l
+  pub done : creating w sitting l .number < refused 1 → creating w sitting l ≡ record { number = 0; bytes = stateBytes (newState w sitting) }
 
 -- ---- reading calls
 

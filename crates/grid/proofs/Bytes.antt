@@ -1,6 +1,6 @@
 -- A state's bytes are read back as that state, and pass the test of the layout.
 -- Assumes nothing.
-use Prim.Native.Nat.{ℕ, zero, suc, _+_, _*_, _/_, _%_, _≤_, _<_}
+use Prim.Native.Nat.{ℕ, zero, suc, _+_, _*_, _≤_, _<_}
 use mathlib.Core.Path.{_≡_, refl, sym, ap, _∙_}
 use mathlib.Core.Bool.{true}
 use mathlib.Core.List.{List, [], _∷_, _++_}
@@ -8,20 +8,21 @@ use native.Mathlib.Omega.{arith}
 use lib.ListN.{length, getD, take, drop, length-append, length-drop, List·getD-append}
 use lib.Seq.{take-at, take-append-le, drop-append-le, drop-append-add, getD-append-add, ext-getD}
 use borrow.Author.Tests.{lt-ltb}
-use Rattle.grid.specs.Layout.{SIZE, HEAD, SERIAL, TOUCHED, FLAGS, CHARS, ATTRS, MASKS}
+use Rattle.grid.specs.Layout.{SIZE, HEAD, PAIR, TOUCHED, FLAGS, CHARS, ATTRS, MASKS}
 use Rattle.grid.specs.Screen.{Row, State, noRow, rowAt, validRow, validScreen, withAttr}
 use Rattle.bytes.specs.Test.{every, isByte}
-use Rattle.bytes.specs.Number.{fourAt}
 use Rattle.bytes.specs.Part.{window}
 use Rattle.bytes.specs.Table.{tabulate}
-use Rattle.grid.specs.Record.{rowOf, rowsOf, headOf, serialOf, touchedOf, screenOf, readState, flagBytes, blocks, charBytes, attrBytes, rowsBytes, frontBytes, stateBytes, frontb, validb, headAt, stampOf}
+use Rattle.grid.specs.Pair.{pairAt}
+use Rattle.grid.specs.Record.{rowOf, rowsOf, headOf, pairOf, touchedOf, screenOf, readState, flagBytes, blocks, charBytes, attrBytes, rowsBytes, frontBytes, stateBytes, frontb, validb, headAt, stampOf}
 use Rattle.grid.specs.Facts.{RowFacts, RowsFacts, ScreenFacts, StateFacts, Valid}
 use Rattle.bytes.proofs.Bools.{and-left, and-right, tests}
 use Rattle.values.proofs.AttrLaws.{attr-back, byte-back}
 use Rattle.grid.proofs.Record.{rows-bytes, heads-eq}
 use Rattle.bytes.proofs.Tables.{length-tabulate, getD-tabulate}
 use Rattle.grid.proofs.Validity.{row-facts, screen-facts}
-use Rattle.bytes.proofs.NumberLaws.{isByte-lt, four-back, whole4}
+use Rattle.grid.proofs.PairLaws.{pair-whole, pair-again}
+use Rattle.bytes.proofs.NumberLaws.{isByte-lt, four-bytes, whole4}
 
 -- ---- the rows' bytes
 
@@ -123,22 +124,22 @@ module _ (t : State) (v : StateFacts t) where
   facts = screen-facts (t .screen) (v .screen)
 
   pub state-back : readState (stateBytes t) ≡ t
-  unfolding readState stateBytes frontBytes headOf headAt stampOf serialOf touchedOf
+  unfolding readState stateBytes frontBytes headOf headAt stampOf pairOf pairAt touchedOf
   state-back =
       let front = frontBytes (t .screen .head) (t .stamp) in
       let r = rows-back front _ (t .screen .rows) refl (facts .rows) in
-      let n = whole4 (t .stamp .serial) (v .serial) in
+      let p = pair-whole (t .stamp .pair) (v .pair) in
       let m = whole4 (t .stamp .touched) (omega arith) in
       let a = attr-back (t .screen .head .attr) (facts .head .foreground) (facts .head .background) in
-      λ i. record { screen = record { head = withAttr (t .screen .head) (a i); rows = r i }; stamp = record { serial = n i; touched = m i } }
+      λ i. record { screen = record { head = withAttr (t .screen .head) (a i); rows = r i }; stamp = record { pair = p i; touched = m i } }
 
   pub length-state : length (stateBytes t) ≡ SIZE
   unfolding stateBytes frontBytes
   length-state = omega (arith, length-rows-bytes (frontBytes (t .screen .head) (t .stamp)) _ (t .screen .rows) refl (facts .rows))
 
-  pub serial-back : serialOf (stateBytes t) ≡ t .stamp .serial
-  unfolding serialOf stateBytes frontBytes
-  serial-back = whole4 (t .stamp .serial) (v .serial)
+  pub pair-back : pairOf (stateBytes t) ≡ t .stamp .pair
+  unfolding readState stampOf
+  pair-back = ap (λ (x : State). x .stamp .pair) state-back
 
   pub state-valid : validb (stateBytes t) ≡ true
   unfolding validb frontb readState stampOf touchedOf
@@ -155,21 +156,17 @@ module _ (l : List ℕ) (v : Valid l) (b : every isByte l ≡ true) where
   byte-at : (i : ℕ) → i < SIZE → getD l i 0 < 256
   byte-at i h = isByte-lt l i b (omega (arith, v .size))
 
-  four-at : (i : ℕ) → i + 3 < SIZE
-      → (fourAt l i / 16777216 % 256 ≡ getD l i 0) × (fourAt l i / 65536 % 256 ≡ getD l (i + 1) 0) × (fourAt l i / 256 % 256 ≡ getD l (i + 2) 0) × (fourAt l i % 256 ≡ getD l (i + 3) 0)
-  four-at i h = four-back _ _ _ _ (byte-at i (omega arith)) (byte-at (i + 1) (omega arith)) (byte-at (i + 2) (omega arith)) (byte-at (i + 3) (omega arith))
-
   pub bytes-back : stateBytes (readState l) ≡ l
-  unfolding stateBytes readState frontBytes headOf headAt stampOf serialOf touchedOf
+  unfolding stateBytes readState frontBytes headOf headAt stampOf pairOf pairAt touchedOf
   bytes-back =
-      let s = four-at SERIAL (omega arith) in
-      let t = four-at TOUCHED (omega arith) in
+      let p = pair-again l PAIR b (omega (arith, v .size)) in
+      let t = four-bytes l TOUCHED b (omega (arith, v .size)) in
       let a = byte-back (getD l (HEAD + 5) 0) (byte-at (HEAD + 5) (omega arith)) in
       let r = rows-bytes l (v .size) in
       let high = sym (v .length-high) in
       let low = sym (v .length-low) in
       let version = sym (v .version) in
       (λ i.
-      high i ∷ low i ∷ version i ∷ getD l HEAD 0 ∷ getD l (HEAD + 1) 0 ∷ getD l (HEAD + 2) 0 ∷ getD l (HEAD + 3) 0
-      ∷ getD l (HEAD + 4) 0 ∷ a i ∷ s .0 i ∷ s .1 i ∷ s .2 i ∷ s .3 i ∷ t .0 i ∷ t .1 i ∷ t .2 i ∷ t .3 i ∷ r i)
+      (high i ∷ low i ∷ version i ∷ getD l HEAD 0 ∷ getD l (HEAD + 1) 0 ∷ getD l (HEAD + 2) 0 ∷ getD l (HEAD + 3) 0
+      ∷ getD l (HEAD + 4) 0 ∷ a i ∷ []) ++ p i ++ t i ++ r i)
       ∙ heads-eq FLAGS 0 l (omega (arith, v .size))

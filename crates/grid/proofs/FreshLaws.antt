@@ -38,11 +38,11 @@ new-width w h e = rw e (new-head w .width-to)
 pub new-fits : (w : ℕ) (h : Head) → h ≡ newHead w → HeadFits h
 new-fits w h e = rw e (head-fits (newHead w) (new-head w))
 
-pub new-end : (w : ℕ) (l m n : List ℕ) (h : Head) → h ≡ newHead w → Becomes l m (replicate 25 (blankRow (h .width) normal) ++ drop 25 (rowsOf l))
-    → n ≡ frontBytes h (record { serial = 0; touched = 0 }) ++ drop FLAGS m → n ≡ stateBytes (newState w)
+pub new-end : (w sitting : ℕ) (l m n : List ℕ) (h : Head) → h ≡ newHead w → Becomes l m (replicate 25 (blankRow (h .width) normal) ++ drop 25 (rowsOf l))
+    → n ≡ frontBytes h (record { pair = record { sitting = sitting; serial = 0 }; touched = 0 }) ++ drop FLAGS m → n ≡ stateBytes (newState w sitting)
 unfolding newState newScreen
-new-end w l m n h e p q =
+new-end w sitting l m n h e p q =
     let none : drop 25 (rowsOf l) ≡ [] = drop-of-length-le (rowsOf l) {i = 25} (omega (arith, length-rows l)) in
     let blank = replicate 25 (blankRow (h .width) normal) in
-    left-bytes m n h blank (record { serial = 0; touched = 0 }) (p .size) (p .rows ∙ ap (λ (x : List Row). blank ++ x) none ∙ append-nil blank) q
-    ∙ ap (λ (x : Head). stateBytes (record { screen = record { head = x; rows = replicate 25 (blankRow (x .width) normal) }; stamp = record { serial = 0; touched = 0 } })) e
+    left-bytes m n h blank (record { pair = record { sitting = sitting; serial = 0 }; touched = 0 }) (p .size) (p .rows ∙ ap (λ (x : List Row). blank ++ x) none ∙ append-nil blank) q
+    ∙ ap (λ (x : Head). stateBytes (record { screen = record { head = x; rows = replicate 25 (blankRow (x .width) normal) }; stamp = record { pair = record { sitting = sitting; serial = 0 }; touched = 0 } })) e

@@ -11,10 +11,12 @@ use Rattle.bytes.proofs.PartLaws.{write-none, write-more, set-write}
 use Rattle.values.specs.Cursor.{at}
 use Rattle.values.specs.Attr.{attrOf, byteOf}
 use Rattle.values.specs.declared.attr.Attr.{Attr}
-use Rattle.grid.specs.Layout.{SIZE, VERSION, HEAD, SERIAL, TOUCHED, FLAGS}
-use Rattle.grid.specs.Record.{headAt, headBytes, serialOf, touchedOf, stampOf, frontBytes}
+use Rattle.grid.specs.Layout.{SIZE, VERSION, HEAD, PAIR, TOUCHED, FLAGS}
+use Rattle.grid.specs.Pair.{pairBytes}
+use Rattle.grid.specs.Record.{headAt, headBytes, pairOf, touchedOf, stampOf, frontBytes}
 use Rattle.grid.specs.declared.head.Head.{Head}
 use Rattle.grid.specs.declared.head.Stamp.{Stamp}
+use Rattle.grid.specs.declared.pair.Pair.{Pair}
 use Rattle.grid.proofs.Record.{heads-eq}
 
 -- `head_at`: w, r, c and a are what it has read of the width, the cursor and the attribute
@@ -40,18 +42,18 @@ headed l a byte h eb =
     rw eb e₆
 
 -- `read_stamp`
-pub stamp-read : (l : List ℕ) (s t : ℕ) → s ≡ serialOf l → t ≡ touchedOf l → _≡_ {A = Stamp} (record { serial = s; touched = t }) (stampOf l)
+pub stamp-read : (l : List ℕ) (p : Pair) (t : ℕ) → p ≡ pairOf l → t ≡ touchedOf l → _≡_ {A = Stamp} (record { pair = p; touched = t }) (stampOf l)
 unfolding stampOf
-stamp-read l s t es et = λ j. record { serial = es j; touched = et j }
+stamp-read l p t ep et = λ j. record { pair = ep j; touched = et j }
 
 -- `write_front`
-pub fronted : (l m₁ m₂ m₃ : List ℕ) (h : Head) (s : Stamp) → length l ≡ SIZE → m₁ ≡ write l SERIAL (bytes4 (s .serial))
+pub fronted : (l m₁ m₂ m₃ : List ℕ) (h : Head) (s : Stamp) → length l ≡ SIZE → m₁ ≡ write l PAIR (pairBytes (s .pair))
     → m₂ ≡ write m₁ TOUCHED (bytes4 (s .touched)) → m₃ ≡ write m₂ HEAD (headBytes h)
     → set (set (set m₃ 0 (SIZE / 256)) 1 (SIZE % 256)) 2 VERSION ≡ frontBytes h s ++ drop FLAGS l
 unfolding write frontBytes
 fronted l m₁ m₂ m₃ h s len e₁ e₂ e₃ =
     rw (e₃, e₂, e₁)
     (subst
-    (λ (z : List ℕ). set (set (set (write (write (write z SERIAL (bytes4 (s .serial))) TOUCHED (bytes4 (s .touched))) HEAD (headBytes h)) 0 (SIZE / 256)) 1 (SIZE % 256)) 2 VERSION ≡ frontBytes h s ++ drop FLAGS l)
+    (λ (z : List ℕ). set (set (set (write (write (write z PAIR (pairBytes (s .pair))) TOUCHED (bytes4 (s .touched))) HEAD (headBytes h)) 0 (SIZE / 256)) 1 (SIZE % 256)) 2 VERSION ≡ frontBytes h s ++ drop FLAGS l)
     (heads-eq FLAGS 0 l (omega arith))
     (rw (write-none (drop FLAGS l) zero)))

@@ -10,6 +10,7 @@ pub mod Keep
 pub mod TouchedLaws
 pub mod Record
 pub mod HeadLaws
+pub mod PairLaws
 pub mod Bytes
 pub mod FreshLaws
 pub mod RefusalLaws

@@ -90,7 +90,7 @@ unfolding window
 overlap p l a h =
     let e₁ : every p (take 32 (drop a l)) ≡ every p (take 24 (drop a l)) && every p (take 8 (drop (a + 24) l)) =
     ap (every p) (take-add 24 8 (drop a l) ∙ ap (λ (x : List ℕ). take 24 (drop a l) ++ take 8 x) (drop-drop 24 a l)) ∙ every-append p _ _ in
-    let e₂ : every p (take 16 (drop (a + 24) l)) ≡ every p (take 8 (drop (a + 24) l)) && every p (take 8 (drop (a + 24 + 8) l)) =
+    let e₂ : every p (take (8 + 8) (drop (a + 24) l)) ≡ every p (take 8 (drop (a + 24) l)) && every p (take 8 (drop (a + 24 + 8) l)) =
     ap (every p) (take-add 8 8 (drop (a + 24) l) ∙ ap (λ (x : List ℕ). take 8 (drop (a + 24) l) ++ take 8 x) (drop-drop 8 (a + 24) l)) ∙ every-append p _ _ in
     let k : a + 24 + 8 ≡ a + 32 = omega arith in
     let e₃ : every p (take 40 (drop a l)) ≡ every p (take 32 (drop a l)) && every p (take 8 (drop (a + 24 + 8) l)) =

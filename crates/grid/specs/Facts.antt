@@ -12,6 +12,7 @@ use Rattle.bytes.specs.Test.{every, zerob}
 use Rattle.bytes.specs.Width.{isWidth}
 use Rattle.grid.specs.Record.{touchedOf, screenOf}
 use Rattle.grid.specs.declared.head.Head.{Head}
+use Rattle.grid.specs.declared.pair.Pair.{Pair}
 
 -- what `validHead` says
 pub record HeadFacts (h : Head) : Type 0 where
@@ -52,9 +53,14 @@ pub record RowFacts (w : ℕ) (x : Row) : Type 0 where
   pub chars-rest : every zerob (drop w (x .chars)) ≡ true
   pub attrs-rest : every zerob (drop w (x .attrs)) ≡ true
 
+-- four bytes hold either number
+pub record PairFits (p : Pair) : Type 0 where
+  pub sitting : p .sitting < SERIALS
+  pub serial : p .serial < SERIALS
+
 -- what a screen record can hold
 pub record StateFacts (t : State) : Type 0 where
-  pub serial : t .stamp .serial < SERIALS
+  pub pair : PairFits (t .stamp .pair)
   pub touched : t .stamp .touched < MASKS
   pub screen : validScreen (t .screen) ≡ true
 

@@ -4,34 +4,35 @@
 use Prim.Native.Nat.{ℕ}
 
 abbrev pub SIZE : ℕ
-SIZE = 4042
+SIZE = 4046
 
 abbrev pub VERSION : ℕ
-VERSION = 1
+VERSION = 2
 
 -- width, cursor row, cursor column, insert, keys on, attribute
 abbrev pub HEAD : ℕ
 HEAD = 3
 
-abbrev pub SERIAL : ℕ
-SERIAL = 9
+-- serial and sitting
+abbrev pub PAIR : ℕ
+PAIR = 9
 
 abbrev pub TOUCHED : ℕ
-TOUCHED = 13
+TOUCHED = 17
 
 abbrev pub FLAGS : ℕ
-FLAGS = 17
+FLAGS = 21
 
 abbrev pub CHARS : ℕ
-CHARS = 42
+CHARS = 46
 
 abbrev pub ATTRS : ℕ
-ATTRS = 2042
+ATTRS = 2046
 
 -- masks of 25 rows are below it: 2 ^ 25
 abbrev pub MASKS : ℕ
 MASKS = 33554432
 
--- serials are below it: 2 ^ 32
+-- serials and sittings are below it: 2 ^ 32
 abbrev pub SERIALS : ℕ
 SERIALS = 4294967296

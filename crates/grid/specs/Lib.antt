@@ -1,5 +1,6 @@
 -- The definitions that the contracts of `grid` and of the crates above it cite.
 pub mod Layout
+pub mod Pair
 pub mod Screen
 pub mod Record
 pub mod Conditions

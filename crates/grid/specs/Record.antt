@@ -6,12 +6,14 @@ use mathlib.Core.Bool.{Bool, _&&_}
 use mathlib.Core.List.{List, [], _∷_, _++_}
 use lib.ListN.{length, getD, take}
 use lib.Dec.{ltb, eqb}
-use Rattle.grid.specs.Layout.{SIZE, VERSION, HEAD, SERIAL, TOUCHED, FLAGS, CHARS, ATTRS, MASKS}
+use Rattle.grid.specs.Layout.{SIZE, VERSION, HEAD, PAIR, TOUCHED, FLAGS, CHARS, ATTRS, MASKS}
+use Rattle.grid.specs.Pair.{pairAt, pairBytes}
 use Rattle.grid.specs.Screen.{Row, Screen, State, validScreen}
 use Rattle.values.specs.Cursor.{at}
 use Rattle.values.specs.Attr.{attrOf, byteOf}
 use Rattle.grid.specs.declared.head.Head.{Head}
 use Rattle.grid.specs.declared.head.Stamp.{Stamp}
+use Rattle.grid.specs.declared.pair.Pair.{Pair}
 use Rattle.bytes.specs.Part.{window}
 use Rattle.bytes.specs.Number.{bytes2, bytes4, fourAt}
 use Rattle.bytes.specs.Table.{tabulate}
@@ -44,14 +46,17 @@ headOf l = headAt l HEAD
 abbrev pub screenOf : List ℕ → Screen
 screenOf l = record { head = headOf l; rows = rowsOf l }
 
-unfoldable pub serialOf : List ℕ → ℕ
-serialOf l = fourAt l SERIAL
+unfoldable pub pairOf : List ℕ → Pair
+pairOf l = pairAt l PAIR
+
+abbrev pub serialOf : List ℕ → ℕ
+serialOf l = pairOf l .serial
 
 unfoldable pub touchedOf : List ℕ → ℕ
 touchedOf l = fourAt l TOUCHED
 
 unfoldable pub stampOf : List ℕ → Stamp
-stampOf l = record { serial = serialOf l; touched = touchedOf l }
+stampOf l = record { pair = pairOf l; touched = touchedOf l }
 
 unfoldable pub readState : List ℕ → State
 readState l = record { screen = screenOf l; stamp = stampOf l }
@@ -63,7 +68,7 @@ headBytes h = h .width ∷ h .cursor .row ∷ h .cursor .col ∷ h .insert ∷ h
 
 -- what stands before the rows
 unfoldable pub frontBytes : Head → Stamp → List ℕ
-frontBytes h stamp = bytes2 SIZE ++ (VERSION ∷ []) ++ headBytes h ++ bytes4 (stamp .serial) ++ bytes4 (stamp .touched)
+frontBytes h stamp = bytes2 SIZE ++ (VERSION ∷ []) ++ headBytes h ++ pairBytes (stamp .pair) ++ bytes4 (stamp .touched)
 
 unfoldable pub flagBytes : List Row → List ℕ
 flagBytes [] = []

@@ -28,7 +28,7 @@ pub record Screen : Type 0 where
   pub head : Head
   pub rows : List Row
 
--- what a screen record holds: the screen, and the serial and the touched rows
+-- what a screen record holds: the screen, its sitting and serial, and the touched rows
 pub record State : Type 0 where
   pub screen : Screen
   pub stamp : Stamp
@@ -100,7 +100,7 @@ withHead s h = record { head = h; rows = s .rows }
 unfoldable pub moveTo : Screen → Cursor → Screen
 moveTo s c = withHead s (withCursor (s .head) c)
 
--- ---- a new screen: 40 gives 40, all else 80
+-- ---- a new screen: 40 gives 40, all else 80; in any sitting, at serial 0
 
 unfoldable pub newHead : ℕ → Head
 newHead w = record { width = if eqb w 40 then 40 else 80; cursor = home; insert = 0; keys = 1; attr = normal }
@@ -108,8 +108,8 @@ newHead w = record { width = if eqb w 40 then 40 else 80; cursor = home; insert 
 unfoldable pub newScreen : ℕ → Screen
 newScreen w = record { head = newHead w; rows = replicate 25 (blankRow (newHead w .width) normal) }
 
-unfoldable pub newState : ℕ → State
-newState w = record { screen = newScreen w; stamp = record { serial = 0; touched = 0 } }
+unfoldable pub newState : ℕ → ℕ → State
+newState w sitting = record { screen = newScreen w; stamp = record { pair = record { sitting = sitting; serial = 0 }; touched = 0 } }
 
 -- ---- trailing spaces
 

@@ -1,6 +1,7 @@
 // A new screen's record.
 use crate::head;
 use crate::layout::SCREEN_ROWS;
+use crate::pair::Pair;
 use crate::row;
 use values::attr::Attr;
 use values::cursor::Cursor;
@@ -25,14 +26,17 @@ fn new_head(width: u32) -> head::Head
 }
 
 // Writes a new screen's record over a slice of any bytes.
-pub fn new_screen(rec: &mut [u8], width: u32)
+pub fn new_screen(rec: &mut [u8], width: u32, sitting: u32)
     requires { ⌜ length (now rec) ≡ SIZE ⌝ }
-    ensures { λ _. ⌜ now (rec .exit) ≡ stateBytes (newState width) ⌝ }
+    ensures { λ _. ⌜ now (rec .exit) ≡ stateBytes (newState width sitting) ⌝ }
 {
     let h = new_head(width);
     row::blank_rows(rec, SCREEN_ROWS, h.width, Attr::NORMAL);
     let stamp = head::Stamp {
-        serial: 0,
+        pair: Pair {
+            serial: 0,
+            sitting: sitting,
+        },
         touched: 0,
     };
     head::write_front(rec, h, stamp);

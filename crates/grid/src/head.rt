@@ -1,9 +1,11 @@
 // The front of a record, what stands before its rows: the head, and the stamp of the call that left it.
 use crate::layout::HEAD;
-use crate::layout::SERIAL;
+use crate::layout::PAIR;
 use crate::layout::SIZE;
 use crate::layout::TOUCHED;
 use crate::layout::VERSION;
+use crate::pair;
+use crate::pair::Pair;
 use bytes::number;
 use values::attr::Attr;
 use values::cursor::Cursor;
@@ -15,7 +17,7 @@ ghost use Rattle.bytes.specs.Part.{write};
 ghost use Rattle.grid.specs.Layout.{SIZE, FLAGS};
 ghost use Rattle.grid.specs.Screen.{editable, withWidth, withCursor, withInsert, withKeys, withAttr};
 ghost use Rattle.grid.specs.Facts.{HeadFits};
-ghost use Rattle.grid.specs.Record.{headAt, headOf, headBytes, serialOf, touchedOf, stampOf, frontBytes};
+ghost use Rattle.grid.specs.Record.{headAt, headOf, headBytes, pairOf, touchedOf, stampOf, frontBytes};
 
 pub struct Head {
     pub width: usize,
@@ -25,9 +27,9 @@ pub struct Head {
     pub attr: Attr,
 }
 
-// What a call leaves beside the screen: the record's serial and the rows that the call touched.
+// What a call leaves beside the screen: the record's sitting and serial, and the rows that the call touched.
 pub struct Stamp {
-    pub serial: u32,
+    pub pair: Pair,
     pub touched: u32,
 }
 
@@ -147,11 +149,11 @@ pub fn read_head(rec: &[u8]) -> Head
     head_at(rec, HEAD)
 }
 
-pub fn read_serial(rec: &[u8]) -> u32
+pub fn read_pair(rec: &[u8]) -> Pair
     requires { ⌜ length (now rec) ≡ SIZE ⌝ }
-    ensures { λ n. ⌜ n ≡ serialOf (now (rec .entry)) ⌝ }
+    ensures { λ p. ⌜ p ≡ pairOf (now (rec .entry)) ⌝ }
 {
-    number::four_at(rec, SERIAL)
+    pair::pair_at(rec, PAIR)
 }
 
 pub fn read_touched(rec: &[u8]) -> u32
@@ -166,7 +168,7 @@ pub fn read_stamp(rec: &[u8]) -> Stamp
     ensures { λ s. ⌜ s ≡ stampOf (now (rec .entry)) ⌝ }
 {
     Stamp {
-        serial: read_serial(rec),
+        pair: read_pair(rec),
         touched: read_touched(rec),
     }
 }
@@ -176,7 +178,8 @@ pub fn write_front(rec: &mut [u8], h: Head, stamp: Stamp)
     requires { ⌜ (length (now rec) ≡ SIZE) × HeadFits h ⌝ }
     ensures { λ _. ⌜ now (rec .exit) ≡ frontBytes h stamp ++ drop FLAGS (now (rec .entry)) ⌝ }
 {
-    number::put4(rec, SERIAL, stamp.serial);
+    let p = stamp.pair;
+    pair::put_pair(rec, PAIR, p);
     number::put4(rec, TOUCHED, stamp.touched);
     put_head(rec, HEAD, h);
     rec[0] = (SIZE / 256) as u8;

@@ -4,22 +4,23 @@ pub const SCREEN_ROWS: usize = 25;
 // A row's cells stand 80 apart at either width.
 pub const STRIDE: usize = 80;
 
-pub const SIZE: usize = 4042;
+pub const SIZE: usize = 4046;
 
-pub const VERSION: u8 = 1;
+pub const VERSION: u8 = 2;
 
 // Width, cursor row, cursor column, insert, keys on, attribute.
 pub const HEAD: usize = 3;
 
-pub const SERIAL: usize = 9;
+// Serial and sitting.
+pub const PAIR: usize = 9;
 
-pub const TOUCHED: usize = 13;
+pub const TOUCHED: usize = 17;
 
-pub const FLAGS: usize = 17;
+pub const FLAGS: usize = 21;
 
-pub const CHARS: usize = 42;
+pub const CHARS: usize = 46;
 
-pub const ATTRS: usize = 2042;
+pub const ATTRS: usize = 2046;
 
 // Masks of 25 rows are below it.
 pub const MASKS: u32 = 33554432;

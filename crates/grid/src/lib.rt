@@ -9,6 +9,7 @@ pub mod fresh;
 pub mod head;
 pub mod layout;
 mod pad;
+pub mod pair;
 pub mod refusal;
 pub mod row;
 pub mod touched;

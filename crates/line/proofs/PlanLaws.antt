@@ -3,7 +3,8 @@
 use Prim.Native.Nat.{ℕ, zero, suc, _+_, _-_, _*_, _≤_, _<_, min}
 use mathlib.Core.Path.{_≡_, refl, sym, ap, ap₂, _∙_}
 use mathlib.Core.Bool.{Bool}
-use mathlib.Core.List.{List, _++_}
+use mathlib.Core.List.{List, _∷_, _++_}
+use mathlib.Core.Logic.{_⊎_, inl, inr}
 use native.Mathlib.Nat.{not-suc-le-zero, le-of-suc-le-suc, mul-le-mul}
 use native.Mathlib.Numerals.{add-one}
 use native.Mathlib.Decide.{ℕ-discrete, decLt}
@@ -26,7 +27,7 @@ use Rattle.bytes.proofs.Tables.{length-tabulate}
 use Rattle.grid.proofs.RowLaws.{length-rows, getD-rows, and-then}
 use Rattle.bytes.proofs.PartLaws.{drop-take}
 use Rattle.line.specs.Splice.{lineRows}
-use Rattle.line.specs.Plan.{planOf, Laid, lineFlag, plannedRow, plannedRows}
+use Rattle.line.specs.Plan.{planOf, Laid, ChangedTo, lineFlag, plannedRow, plannedRows}
 use Rattle.line.specs.declared.plan.Plan.{Plan}
 use Rattle.line.proofs.CharsLaws.{take-min}
 
@@ -189,8 +190,51 @@ module _ (old : List ℕ) (new : List Row) (blank : Row) (p : Plan) where
       ∙ set-at (tabulate f r) (getD (rowsOf old) r noRow) rest (f r) r (length-tabulate f r)
       ∙ sym (append-snoc (tabulate f r) (f r) rest) ∙ ap (λ (k : ℕ). tabulate f k ++ drop k (rowsOf old)) (sym (add-one r)))
 
-  pub rows-end : (l m : List ℕ) (r : ℕ) → r ≤ p .rows → p .rows ≤ r → Becomes l m (rowsTo (rowsOf old) new blank p r) → Becomes l m (plannedRows (rowsOf old) new blank p)
+  -- a row behind a line that has as many rows as before
+  stays : (r : ℕ) → Laid p → p .next ≡ p .top + p .lines → p .top + p .lines ≤ r → r < p .rows → f r ≡ rowAt (rowsOf old) r
+  unfolding f
+  stays r laid e h k =
+      planned-below (rowsOf old) new blank p r (omega arith) h (omega arith) ∙ ap (rowAt (rowsOf old)) (omega arith)
+
+  behind : (r k : ℕ) → Laid p → p .next ≡ p .top + p .lines → p .top + p .lines ≤ r → r + k ≤ p .rows
+      → rowsTo (rowsOf old) new blank p (r + k) ≡ rowsTo (rowsOf old) new blank p r
+  unfolding rowsTo tabulate f rowAt
+  behind r zero laid e h le =
+      let n : r + zero ≡ r = omega arith in
+      ap (rowsTo (rowsOf old) new blank p) n
+  behind r (suc k) laid e h le =
+      let n : r + suc k ≡ suc (r + k) = omega arith in
+      ap (rowsTo (rowsOf old) new blank p) n
+      ∙ append-snoc (tabulate f (r + k)) (f (r + k)) (drop (suc (r + k)) (rowsOf old))
+      ∙ ap (λ (x : Row). tabulate f (r + k) ++ (x ∷ drop (suc (r + k)) (rowsOf old))) (stays (r + k) laid e (omega arith) (omega arith))
+      ∙ ap (λ (R : List Row). tabulate f (r + k) ++ R) (sym (drop-cons (rowsOf old) (r + k) noRow (omega (arith, length-rows old))))
+      ∙ behind r k laid e h (omega arith)
+
+  pub rows-end : (l m : List ℕ) (r e : ℕ) → Laid p → ChangedTo p e → r ≤ e → e ≤ r → Becomes l m (rowsTo (rowsOf old) new blank p r)
+      → Becomes l m (plannedRows (rowsOf old) new blank p)
   unfolding rowsTo plannedRows
-  rows-end l m r h k b =
-      let done : r ≡ p .rows = omega arith in
-      rw done at b
+  rows-end l m r e laid c h k b = go (c .rest)
+    where
+      done : r ≡ e
+      done = omega arith
+
+      go : (e ≡ p .rows) ⊎ ((e ≡ p .top + p .lines) × (p .next ≡ e)) → Becomes l m (plannedRows (rowsOf old) new blank p)
+      go (inl x) = rw (done ∙ x) at b
+      go (inr (x, y)) =
+          let to : r + (p .rows - r) ≡ p .rows = omega (arith, c .most) in
+          record {
+            size = b .size;
+            front = b .front;
+            rows =
+                b .rows ∙ sym (behind r (p .rows - r) laid (y ∙ x) (omega arith) (omega arith))
+                ∙ ap (λ (i : ℕ). tabulate (plannedRow (rowsOf old) new blank p) i ++ drop i (rowsOf old)) to;
+          }
+
+pub changed-line : (p : Plan) → Laid p → p .next ≡ p .top + p .lines → ChangedTo p (p .top + p .lines)
+changed-line p laid e = record { most = laid .whole; rest = inr (refl, e) }
+
+pub changed-all : (p : Plan) → ChangedTo p (p .rows)
+changed-all p = record { most = omega arith; rest = inl refl }
+
+pub row-inside : (p : Plan) (r e : ℕ) → r < e → e ≤ p .rows → r < p .rows
+row-inside p r e h k = omega arith

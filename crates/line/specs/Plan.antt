@@ -3,6 +3,7 @@
 use Prim.Native.Nat.{ℕ, _+_, _-_, _≤_, _<_}
 use mathlib.Core.Path.{_≡_}
 use mathlib.Core.List.{List, _++_}
+use mathlib.Core.Logic.{_⊎_}
 use lib.ListN.{drop}
 use lib.Dec.{ltb, eqb}
 use Rattle.bytes.specs.Choice.{if_then_else_}
@@ -29,6 +30,11 @@ pub record Laid (p : Plan) : Type 0 where
   pub whole : p .top + p .lines ≤ p .rows
   pub over-to : p .top + p .over < 25
   pub next-to : p .next ≤ 25
+
+-- from row n on the plan changes nothing: it ends there, or the line ends there and the rows behind it stay where they are
+pub record ChangedTo (p : Plan) (n : ℕ) : Type 0 where
+  pub most : n ≤ p .rows
+  pub rest : (n ≡ p .rows) ⊎ ((n ≡ p .top + p .lines) × (p .next ≡ n))
 
 -- the flag of the line's row that stands at r, where its rows end before `below`
 unfoldable pub lineFlag : ℕ → ℕ → ℕ

@@ -12,7 +12,7 @@ ghost use Rattle.grid.specs.Layout.{SIZE};
 ghost use Rattle.grid.specs.Screen.{blankRow};
 ghost use Rattle.grid.specs.Record.{rowOf, rowsOf, Becomes};
 ghost use Rattle.line.specs.Splice.{lineRows};
-ghost use Rattle.line.specs.Plan.{planOf, Laid, lineFlag, plannedRow, plannedRows};
+ghost use Rattle.line.specs.Plan.{planOf, Laid, ChangedTo, lineFlag, plannedRow, plannedRows};
 
 // Row r of the new screen is: before top, the old row r + over; then one of the line's rows; then the old rows from next on; then blank.
 // Rows from `rows` on stay as they are.
@@ -93,6 +93,18 @@ fn write_row(
     row::blank_row(rec, r, w, attr);
 }
 
+// The row at which the writing ends: where the line has as many rows as before, those behind it stay.
+fn changed_to(p: Plan) -> usize
+    requires { ⌜ Laid p ⌝ }
+    ensures { λ n. ⌜ ChangedTo p n ⌝ }
+{
+    let below = p.top + p.lines;
+    if p.next == below {
+        return below;
+    }
+    p.rows
+}
+
 pub fn write_rows(
     rec: &mut [u8],
     old: &[u8],
@@ -105,7 +117,7 @@ pub fn write_rows(
     requires { ⌜ (length (now rec) ≡ SIZE) × (length (now old) ≡ SIZE) × (now rec ≡ now old) × Laid p × (len ≤ length (now text)) × (w ≤ 80) ⌝ }
     ensures { λ _. ⌜ Becomes (now (rec .entry)) (now (rec .exit)) (plannedRows (rowsOf (now (old .entry))) (lineRows (p .lines) w attr (take len (now (text .entry)))) (blankRow w attr) p) ⌝ }
 {
-    let e = p.rows;
+    let e = changed_to(p);
     let mut r = 0;
     while r < e {
         write_row(rec, r, old, p, text, len, w, attr);

@@ -1,18 +1,19 @@
 -- `arrive`: what becomes of a report. The tests on the way, and what is so where it is taken in.
 -- Assumes nothing.
-use Prim.Native.Nat.{ℕ, _+_, _-_, _≤_, _<_}
-use mathlib.Core.Path.{_≡_, refl, sym, ap, ap₂, _∙_}
+use Prim.Native.Nat.{ℕ, _-_}
+use mathlib.Core.Path.{_≡_, sym, ap, ap₂, _∙_}
 use mathlib.Core.Bool.{Bool, true, false, not, _&&_}
 use mathlib.Core.List.{List}
-use native.Mathlib.Omega.{arith}
-use lib.Dec.{ltb, eqb}
+use lib.Dec.{eqb}
 use lib.ListN.{length, take, drop}
-use borrow.Author.Tests.{not-true, not-false, eq-eqb, ne-eqb, eqb-true, eqb-false}
+use borrow.Author.Tests.{not-true, not-false, eq-eqb, ne-eqb}
 use Rattle.bytes.specs.Choice.{if_then_else_}
 use Rattle.bytes.specs.Refusals.{firstOf}
 use Rattle.bytes.proofs.Bools.{pick, skip}
-use Rattle.grid.specs.Record.{headOf, serialOf, stampOf, readState}
+use Rattle.grid.specs.Record.{headOf, pairOf, stampOf, readState}
+use Rattle.grid.specs.Pair.{nextPair}
 use Rattle.grid.specs.declared.head.Head.{Head}
+use Rattle.grid.specs.declared.pair.Pair.{Pair}
 use Rattle.report.specs.Layout.{ALL-ROWS}
 use Rattle.report.specs.declared.kind.Kind.{Kind}
 use Rattle.report.specs.declared.kind.Kind.the-variants.{Step, Full}
@@ -21,50 +22,41 @@ use Rattle.report.specs.Report.{readFront, readReport, reportb}
 use Rattle.report.proofs.Conditions.{report-facts}
 use Rattle.mirror.specs.Layout.{MIRROR-SIZE, RECORD}
 use Rattle.mirror.specs.declared.arrive.Arrived.the-variants.{Refused, Noted, Applied}
+use Rattle.mirror.specs.Order.{samePair, later}
 use Rattle.mirror.specs.Mirror.{dueAt, due, widthWithoutRows, readMirror, mirrorb, levelOf, arrivalTests, arrived}
 use Rattle.mirror.specs.Parts.{Ready}
 use Rattle.mirror.proofs.MirrorLaws.{part-is}
 use Rattle.mirror.proofs.Conditions.{mirror-facts}
 
--- ---- serials
+-- ---- pairs: t is what `same_pair` has answered
 
-pub level-yes : (m n : ℕ) → m ≡ n → 1 ≡ levelOf m n
+pub level-yes : (p q : Pair) (t : Bool) → t ≡ samePair p q → t ≡ true → 1 ≡ levelOf p q
 unfolding levelOf
-level-yes m n e = sym (pick (eqb m n) 1 0 (eq-eqb m n e))
+level-yes p q t is e = sym (pick (samePair p q) 1 0 (sym is ∙ e))
 
-pub level-no : (m n : ℕ) → (m ≡ n → ⊥) → 0 ≡ levelOf m n
+pub level-no : (p q : Pair) (t : Bool) → t ≡ samePair p q → t ≡ false → 0 ≡ levelOf p q
 unfolding levelOf
-level-no m n ne = sym (skip (eqb m n) 1 0 (ne-eqb m n ne))
+level-no p q t is e = sym (skip (samePair p q) 1 0 (sym is ∙ e))
 
-pub serial-read : (l : List ℕ) (m : ℕ) → m ≡ serialOf (take (length l - RECORD) (drop RECORD l)) → m ≡ serialOf (drop RECORD l)
-serial-read l m e = e ∙ ap serialOf (part-is l RECORD)
+pub pair-part : (l : List ℕ) (p : Pair) → p ≡ pairOf (take (length l - RECORD) (drop RECORD l)) → p ≡ pairOf (drop RECORD l)
+pair-part l p e = e ∙ ap pairOf (part-is l RECORD)
 
--- ---- `follows` and `due_at`
+-- ---- `due_at`: t is what the test of the kind has answered
 
-pub follows-not : (s m : ℕ) → s ≤ m → false ≡ eqb s (m + 1)
-follows-not s m h = sym (ne-eqb s (m + 1) (λ q. omega arith))
-
-pub follows-less : (s m : ℕ) → m < s → eqb (s - m) 1 ≡ eqb s (m + 1)
-follows-less s m h = go (eqb s (m + 1)) refl
-  where
-    go : (b : Bool) → eqb s (m + 1) ≡ b → eqb (s - m) 1 ≡ b
-    go true e = let q = eqb-true s (m + 1) e in eq-eqb (s - m) 1 (omega arith)
-    go false e = let q = eqb-false s (m + 1) e in ne-eqb (s - m) 1 (λ x. q (omega arith))
-
-pub step-due : (kind : Kind) (s m : ℕ) (t : Bool) → kind ≡ Step → t ≡ eqb s (m + 1) → t ≡ dueAt kind s m
+pub step-due : (kind : Kind) (p shown : Pair) (t : Bool) → kind ≡ Step → t ≡ samePair p (nextPair shown) → t ≡ dueAt kind p shown
 unfolding dueAt
-step-due kind s m t k e = rw k e
+step-due kind p shown t k e = rw k e
 
-pub full-due : (kind : Kind) (s m : ℕ) → kind ≡ Full → ltb m s ≡ dueAt kind s m
+pub full-due : (kind : Kind) (p shown : Pair) (t : Bool) → kind ≡ Full → t ≡ later p shown → t ≡ dueAt kind p shown
 unfolding dueAt
-full-due kind s m k = rw k refl
+full-due kind p shown t k e = rw k e
 
--- ---- `due` and `width_without_rows`: f is the report's front, m the serial shown, g the head shown
+-- ---- `due` and `width_without_rows`: f is the report's front, m the shown pair, g the shown head
 
 module _ (l b : List ℕ) (f : Front) (ef : f ≡ readFront b) where
-  pub due-read : (m : ℕ) (t : Bool) → m ≡ serialOf (drop RECORD l) → t ≡ dueAt (f .kind) (f .serial) m → t ≡ due (readReport b) (readMirror l)
+  pub due-read : (m : Pair) (t : Bool) → m ≡ pairOf (drop RECORD l) → t ≡ dueAt (f .kind) (f .pair) m → t ≡ due (readReport b) (readMirror l)
   unfolding due readReport readMirror readState stampOf
-  due-read m t em e = e ∙ ap₂ (λ (x : Front) (i : ℕ). dueAt (x .kind) (x .serial) i) ef em
+  due-read m t em e = e ∙ ap₂ (λ (x : Front) (i : Pair). dueAt (x .kind) (x .pair) i) ef em
 
   module _ (g : Head) (eg : g ≡ headOf (take (length l - RECORD) (drop RECORD l))) where
     wide-is : widthWithoutRows (readReport b) (readMirror l) ≡ not (eqb (f .head .width) (g .width)) && not (eqb (f .mask) ALL-ROWS)

@@ -1,6 +1,6 @@
 -- `arrive`: what an arrival answers and leaves, in each of its cases.
 -- Assumes nothing.
-use Prim.Native.Nat.{ℕ, zero, suc, _-_, _≤_, max}
+use Prim.Native.Nat.{ℕ, zero, suc, _-_, _≤_}
 use mathlib.Core.Path.{_≡_, refl, sym, ap, ap₂, _∙_, subst}
 use mathlib.Core.Bool.{Bool, true, false, true≢false}
 use mathlib.Core.List.{List, [], _∷_, _++_}
@@ -12,20 +12,22 @@ use mir.Val.{Fits}
 use borrow.Author.Tests.{eqb-true, not-false, lt-ltb}
 use Rattle.bytes.specs.Choice.{if_then_else_}
 use Rattle.bytes.specs.Answer.{refused, Written, Writes}
-use Rattle.bytes.specs.Number.{fourAt}
+use Rattle.grid.specs.Pair.{pairAt}
+use Rattle.grid.specs.declared.pair.Pair.{Pair}
 use Rattle.bytes.specs.Refusals.{order, placeIn, firstOf, allPass}
 use Rattle.bytes.specs.Test.{every, isByte}
 use Rattle.bytes.proofs.Bools.{and-both, and-left, and-right, cases, either, every-drop}
 use Rattle.bytes.proofs.Found.{ordered, none-fails}
-use Rattle.grid.specs.Record.{serialOf, stampOf, readState, stateBytes}
+use Rattle.grid.specs.Record.{pairOf, stampOf, readState, stateBytes}
 use Rattle.grid.specs.Conditions.{ValidRecord}
 use Rattle.grid.proofs.Bytes.{bytes-back}
 use Rattle.grid.proofs.Conditions.{conditions-record}
-use Rattle.report.specs.Layout.{REPORT-SERIAL}
+use Rattle.report.specs.Layout.{REPORT-PAIR}
 use Rattle.report.specs.Report.{readFront, readReport, reportb}
 use Rattle.mirror.specs.Layout.{MIRROR-SIZE, NEWEST, RECORD}
 use Rattle.mirror.specs.declared.arrive.Arrived.{Arrived}
 use Rattle.mirror.specs.declared.arrive.Arrived.the-variants.{Refused, Noted, Applied}
+use Rattle.mirror.specs.Order.{latest}
 use Rattle.mirror.specs.Mirror.{shown, noted, applied, mirrorFront, mirrorBytes, readMirror, mirrorb, levelOf, leaving, arrivalTests, arrived, arrivedOutcome, arrival}
 use Rattle.mirror.specs.Parts.{Ready}
 use Rattle.mirror.proofs.MirrorLaws.{part-is, part-back}
@@ -113,19 +115,19 @@ all-bytes (x ∷ l) f = and-both _ _ (lt-ltb x 256 (f zero .fits)) (all-bytes l 
 pub record-kept : (l : List ℕ) → ValidRecord (drop RECORD l) → every isByte l ≡ true → stateBytes (readState (drop RECORD l)) ≡ drop RECORD l
 record-kept l v q = bytes-back (drop RECORD l) (conditions-record _ v) (every-drop isByte RECORD l q)
 
--- x and s are the serials n and s as they are read, y the larger, k the answer
-module _ (l b : List ℕ) (v : Ready l b) (x s y k : ℕ) (ex : x ≡ fourAt l NEWEST) (es : s ≡ fourAt b REPORT-SERIAL) (ey : y ≡ max x s) where
-  newest : y ≡ max (fourAt l NEWEST) (fourAt b REPORT-SERIAL)
-  newest = ey ∙ ap₂ max ex es
+-- x is the newest pair and s that of the report, as they are read, y the later, k the answer
+module _ (l b : List ℕ) (v : Ready l b) (x s y : Pair) (k : ℕ) (ex : x ≡ pairAt l NEWEST) (es : s ≡ pairAt b REPORT-PAIR) (ey : y ≡ latest x s) where
+  newest : y ≡ latest (pairAt l NEWEST) (pairAt b REPORT-PAIR)
+  newest = ey ∙ ap₂ latest ex es
 
-  pub note-done : every isByte l ≡ true → (m : ℕ) (r : List ℕ) → m ≡ serialOf (drop RECORD l) → r ≡ mirrorFront y ++ drop RECORD l
+  pub note-done : every isByte l ≡ true → (m : Pair) (r : List ℕ) → m ≡ pairOf (drop RECORD l) → r ≡ mirrorFront y ++ drop RECORD l
       → k ≡ levelOf m y → Writes (leaving (noted (readReport b) (readMirror l))) k r
   unfolding leaving noted readReport readFront readMirror readState stampOf mirrorBytes
   note-done bytes m r em er ek =
       record {
         number = ek ∙ ap₂ levelOf em newest;
         left =
-            er ∙ ap₂ (λ (i : ℕ) (z : List ℕ). mirrorFront i ++ z) newest (sym (record-kept l (v .mirror .record-valid) bytes));
+            er ∙ ap₂ (λ (i : Pair) (z : List ℕ). mirrorFront i ++ z) newest (sym (record-kept l (v .mirror .record-valid) bytes));
       }
 
   pub apply-done : (ys r : List ℕ) → ys ≡ stateBytes (shown (readReport b) (readState (take (length l - RECORD) (drop RECORD l))))
@@ -135,4 +137,4 @@ module _ (l b : List ℕ) (v : Ready l b) (x s y k : ℕ) (ex : x ≡ fourAt l N
   apply-done ys r ew er ek =
       let w : drop RECORD (take RECORD l ++ (ys ++ drop (length l - RECORD) (drop RECORD l))) ≡ stateBytes (shown (readReport b) (readState (drop RECORD l))) =
       part-back l ys RECORD (omega (arith, v .mirror .size)) ∙ ew ∙ ap (λ (z : List ℕ). stateBytes (shown (readReport b) (readState z))) (part-is l RECORD) in
-      record { number = ek ∙ ap₂ levelOf es newest; left = er ∙ ap₂ (λ (i : ℕ) (z : List ℕ). mirrorFront i ++ z) newest w }
+      record { number = ek ∙ ap₂ levelOf es newest; left = er ∙ ap₂ (λ (i : Pair) (z : List ℕ). mirrorFront i ++ z) newest w }

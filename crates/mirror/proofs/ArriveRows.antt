@@ -141,10 +141,10 @@ module _ (b : List ℕ) (v : ValidReport b) where
 
 pub show-done : (b l m n : List ℕ) (f : Front) (from : ℕ) → f ≡ readFront b → from ≡ rowsAt (f .kind)
     → Becomes l m (merge (bits 25 (f .mask)) (carriedRows (ones (f .mask)) (drop from b)) (rowsOf l))
-    → n ≡ frontBytes (f .head) (record { serial = f .serial; touched = 0 }) ++ drop FLAGS m → n ≡ stateBytes (shown (readReport b) (readState l))
+    → n ≡ frontBytes (f .head) (record { pair = f .pair; touched = 0 }) ++ drop FLAGS m → n ≡ stateBytes (shown (readReport b) (readState l))
 unfolding shown readReport readState
 show-done b l m n f from ef es p e =
     let rows : Front → ℕ → List Row = λ g i. merge (bits 25 (g .mask)) (carriedRows (ones (g .mask)) (drop i b)) (rowsOf l) in
-    left-bytes m n (f .head) (rows f from) (record { serial = f .serial; touched = 0 }) (p .size) (p .rows) e
-    ∙ ap (λ (i : ℕ). stateBytes (record { screen = record { head = f .head; rows = rows f i }; stamp = record { serial = f .serial; touched = 0 } })) es
-    ∙ ap (λ (g : Front). stateBytes (record { screen = record { head = g .head; rows = rows g (rowsAt (g .kind)) }; stamp = record { serial = g .serial; touched = 0 } })) ef
+    left-bytes m n (f .head) (rows f from) (record { pair = f .pair; touched = 0 }) (p .size) (p .rows) e
+    ∙ ap (λ (i : ℕ). stateBytes (record { screen = record { head = f .head; rows = rows f i }; stamp = record { pair = f .pair; touched = 0 } })) es
+    ∙ ap (λ (g : Front). stateBytes (record { screen = record { head = g .head; rows = rows g (rowsAt (g .kind)) }; stamp = record { pair = g .pair; touched = 0 } })) ef

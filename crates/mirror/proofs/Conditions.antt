@@ -1,17 +1,18 @@
 -- From the test of a mirror to document 01's conditions, and back.
 -- Assumes nothing.
 use Prim.Native.Nat.{ℕ}
-use mathlib.Core.Path.{_≡_}
-use mathlib.Core.Bool.{true}
+use mathlib.Core.Path.{_≡_, ap}
+use mathlib.Core.Bool.{true, not}
 use mathlib.Core.List.{List}
 use lib.ListN.{drop}
-use borrow.Author.Tests.{leb-true, eqb-true, le-leb}
+use borrow.Author.Tests.{eqb-true, not-true}
 use Rattle.grid.specs.Record.{validb}
 use Rattle.bytes.proofs.Bools.{and-left, and-right, tests}
 use Rattle.grid.proofs.Conditions.{record-facts, facts-record}
 use Rattle.mirror.specs.Layout.{RECORD}
 use Rattle.mirror.specs.Mirror.{mirrorFrontb, shownb, mirrorb}
 use Rattle.mirror.specs.Refusals.{ValidMirror}
+use Rattle.mirror.proofs.OrderLaws.{at-most, not-later}
 
 pub mirror-facts : (l : List ℕ) → mirrorb l ≡ true → ValidMirror l
 unfolding mirrorb mirrorFrontb shownb
@@ -23,7 +24,7 @@ mirror-facts l e =
       version = eqb-true _ _ (search (and-left, and-right) depth 8);
       record-valid = record-facts (drop RECORD l) (search (and-left, and-right) depth 8);
       untouched = eqb-true _ _ (search (and-left, and-right) depth 8);
-      behind = leb-true _ _ (search (and-left, and-right) depth 8);
+      behind = at-most _ _ (not-true _ (search (and-left, and-right) depth 8));
     }
 
 pub facts-mirror : (l : List ℕ) → ValidMirror l → mirrorb l ≡ true
@@ -35,5 +36,5 @@ facts-mirror l v =
     let o = v .version in
     let c : validb (drop RECORD l) ≡ true = facts-record (drop RECORD l) (v .record-valid) in
     let t = v .untouched in
-    let e = le-leb _ _ (v .behind) in
+    let e = ap not (not-later _ _ (v .behind)) in
     search tests depth 8

@@ -6,7 +6,7 @@ use mathlib.Core.Bool.{Bool, true, false, not}
 use mathlib.Core.Bool
 use mathlib.Core.List.{List, [], _++_, append-nil}
 use native.Mathlib.Omega.{arith}
-use lib.Dec.{leb, eqb}
+use lib.Dec.{eqb}
 use lib.ListN.{length, getD, take, drop, set, length-drop, drop-of-length-le}
 use lib.Seq.{take-all, drop-at, length-take-le}
 use borrow.Author.Tests.{not-true, not-false, eq-eqb, ne-eqb}
@@ -14,12 +14,14 @@ use Rattle.bytes.specs.Choice.{if_then_else_}
 use Rattle.bytes.specs.Answer.{refused, unless, Writes}
 use Rattle.grid.specs.Screen.{newState}
 use Rattle.bytes.specs.Part.{write}
-use Rattle.bytes.specs.Number.{bytes4, fourAt}
-use Rattle.grid.specs.Record.{serialOf, touchedOf, stateBytes, validb}
+use Rattle.grid.specs.Pair.{pairAt, pairBytes}
+use Rattle.grid.specs.declared.pair.Pair.{Pair}
+use Rattle.grid.specs.Record.{pairOf, touchedOf, stateBytes, validb}
 use Rattle.bytes.proofs.PartLaws.{write-none}
 use Rattle.grid.proofs.Record.{heads-eq}
 use Rattle.mirror.specs.Layout.{MIRROR-SIZE, MIRROR-VERSION, NEWEST, RECORD}
 use Rattle.bytes.specs.Refusals.{firstOf}
+use Rattle.mirror.specs.Order.{later}
 use Rattle.mirror.specs.Mirror.{newMirror, mirrorFront, mirrorBytes, mirrorFrontb, shownb, mirrorb, creatingMirror}
 
 -- ---- the part that is lent
@@ -62,15 +64,15 @@ module _ (l : List ℕ) where
       let e = ne-eqb (touchedOf (drop RECORD l)) 0 (λ q. ne (is ∙ ap touchedOf (part-is l RECORD) ∙ q)) in
       simp (e, Bool.and-false)
 
-  pub shown-tested : (t : Bool) (m s n : ℕ) → t ≡ validb (take (length l - RECORD) (drop RECORD l)) → not t ≡ false
-      → m ≡ touchedOf (take (length l - RECORD) (drop RECORD l)) → m ≡ 0 → s ≡ serialOf (take (length l - RECORD) (drop RECORD l)) → n ≡ fourAt l NEWEST
-      → leb s n ≡ shownb l
+  pub shown-tested : (t u : Bool) (m : ℕ) (p q : Pair) → t ≡ validb (take (length l - RECORD) (drop RECORD l)) → not t ≡ false
+      → m ≡ touchedOf (take (length l - RECORD) (drop RECORD l)) → m ≡ 0 → p ≡ pairOf (take (length l - RECORD) (drop RECORD l)) → q ≡ pairAt l NEWEST
+      → u ≡ later p q → not u ≡ shownb l
   unfolding shownb
-  shown-tested t m s n is nt im none es en =
+  shown-tested t u m s n is nt im none es en iu =
       let p = part-is l RECORD in
       let v : validb (drop RECORD l) ≡ true = ap validb (sym p) ∙ sym is ∙ not-false t nt in
       let z = eq-eqb (touchedOf (drop RECORD l)) 0 (ap touchedOf (sym p) ∙ sym im ∙ none) in
-      ap₂ leb (es ∙ ap serialOf p) en ∙ sym (rw (v, z))
+      ap not iu ∙ ap₂ (λ (x y : Pair). not (later x y)) (es ∙ ap pairOf p) en ∙ sym (rw (v, z))
 
   pub size-wrong : (length l ≡ MIRROR-SIZE → ⊥) → false ≡ mirrorb l
   unfolding mirrorb
@@ -86,26 +88,26 @@ module _ (l : List ℕ) where
 
 -- ---- the front
 
-pub mirror-fronted : (l m : List ℕ) (newest : ℕ) → length l ≡ MIRROR-SIZE → m ≡ write l NEWEST (bytes4 newest)
+pub mirror-fronted : (l m : List ℕ) (newest : Pair) → length l ≡ MIRROR-SIZE → m ≡ write l NEWEST (pairBytes newest)
     → set (set (set m 0 (MIRROR-SIZE / 256)) 1 (MIRROR-SIZE % 256)) 2 MIRROR-VERSION ≡ mirrorFront newest ++ drop RECORD l
 unfolding write mirrorFront
 mirror-fronted l m newest len e =
     rw e
     (subst
-    (λ (z : List ℕ). set (set (set (write z NEWEST (bytes4 newest)) 0 (MIRROR-SIZE / 256)) 1 (MIRROR-SIZE % 256)) 2 MIRROR-VERSION ≡ mirrorFront newest ++ drop RECORD l)
+    (λ (z : List ℕ). set (set (set (write z NEWEST (pairBytes newest)) 0 (MIRROR-SIZE / 256)) 1 (MIRROR-SIZE % 256)) 2 MIRROR-VERSION ≡ mirrorFront newest ++ drop RECORD l)
     (heads-eq RECORD 0 l (omega arith))
     (rw (write-none (drop RECORD l) zero)))
 
 -- ---- a new mirror
 
-module _ (w : ℕ) (l : List ℕ) where
-  pub new-mirror-refused : (length l ≡ MIRROR-SIZE → ⊥) → Writes (creatingMirror w l) (refused 1) l
+module _ (w sitting : ℕ) (l : List ℕ) where
+  pub new-mirror-refused : (length l ≡ MIRROR-SIZE → ⊥) → Writes (creatingMirror w sitting l) (refused 1) l
   unfolding creatingMirror unless firstOf if_then_else_
   new-mirror-refused ne = rw (ne-eqb (length l) MIRROR-SIZE ne) (record { number = refl; left = refl })
 
-  pub new-mirror-done : (ys m : List ℕ) → length l ≡ MIRROR-SIZE → ys ≡ stateBytes (newState w)
-      → m ≡ mirrorFront 0 ++ drop RECORD (take RECORD l ++ (ys ++ drop (length l - RECORD) (drop RECORD l))) → Writes (creatingMirror w l) 0 m
+  pub new-mirror-done : (ys m : List ℕ) → length l ≡ MIRROR-SIZE → ys ≡ stateBytes (newState w sitting)
+      → m ≡ mirrorFront (record { sitting = sitting; serial = 0 }) ++ drop RECORD (take RECORD l ++ (ys ++ drop (length l - RECORD) (drop RECORD l))) → Writes (creatingMirror w sitting l) 0 m
   unfolding creatingMirror unless firstOf if_then_else_ mirrorBytes newMirror
   new-mirror-done ys m len e em =
       rw (eq-eqb (length l) MIRROR-SIZE len)
-      (record { number = refl; left = em ∙ ap (λ (x : List ℕ). mirrorFront 0 ++ x) (part-back l ys RECORD (omega arith) ∙ e) })
+      (record { number = refl; left = em ∙ ap (λ (x : List ℕ). mirrorFront (record { sitting = sitting; serial = 0 }) ++ x) (part-back l ys RECORD (omega arith) ∙ e) })

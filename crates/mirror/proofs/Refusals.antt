@@ -8,7 +8,7 @@ use mathlib.Core.Logic.{_≢_}
 use native.Mathlib.Omega.{arith}
 use lib.Dec.{eqb}
 use lib.ListN.{length, getD, drop}
-use borrow.Author.Tests.{eqb-false, eqb-true, eq-eqb, ne-eqb, not-true, not-false}
+use borrow.Author.Tests.{eqb-true, eqb-false, eq-eqb, ne-eqb, not-true, not-false}
 use Rattle.bytes.specs.Choice.{if_then_else_}
 use Rattle.bytes.specs.Answer.{refused, Written, unless}
 use Rattle.bytes.specs.Number.{fourAt}
@@ -17,8 +17,9 @@ use Rattle.bytes.proofs.Bools.{and-left, and-right, and-both, fails, either}
 use Rattle.bytes.proofs.Found.{Fails, First, Found, found, none-first, ordered, answered}
 use Rattle.bytes.proofs.Found.Fails.{here, there}
 use Rattle.bytes.proofs.Found.First.{now, later}
-use Rattle.grid.specs.Record.{headAt, headOf, serialOf, stampOf, readState}
-use Rattle.report.specs.Layout.{KIND, REPORT-SERIAL, MASK, HEAD, STEP, ALL-ROWS}
+use Rattle.grid.specs.Record.{headAt, headOf, pairOf, stampOf, readState}
+use Rattle.grid.specs.Pair.{pairAt, nextPair}
+use Rattle.report.specs.Layout.{KIND, REPORT-PAIR, MASK, HEAD, STEP, ALL-ROWS}
 use Rattle.report.specs.declared.kind.Kind.{Kind}
 use Rattle.report.specs.Report.{readFront, readReport, reportb}
 use Rattle.report.specs.Refusals.{KindFits, ValidReport}
@@ -31,12 +32,13 @@ use Rattle.mirror.specs.Mirror.{newMirror, mirrorBytes, readMirror, dueA
 use Rattle.mirror.specs.Refusals.{ValidMirror, NewMirrorRefused, CreatingMirrorAnswers, WidthWithoutRows, ArrivalRefused, ArrivalAnswers}
 use Rattle.mirror.specs.Refusals.NewMirrorRefused.{mirror-length as new-length}
 use Rattle.mirror.specs.Refusals.ArrivalRefused.{mirror-length, mirror-layout, report-layout, width-without-rows}
+use Rattle.mirror.specs.Order.{samePair}
 use Rattle.mirror.proofs.Conditions.{mirror-facts, facts-mirror}
 use Rattle.mirror.proofs.ArriveLeft.{arrival-ordered}
 
 -- ---- new mirror
 
-module _ (w : ℕ) (l : List ℕ) where
+module _ (w sitting : ℕ) (l : List ℕ) where
   new-sound : (k : ℕ) → First ((1, eqb (length l) MIRROR-SIZE) ∷ []) k → NewMirrorRefused l k
   new-sound k (now e) = new-length (eqb-false _ _ e)
   new-sound k (later e f) = none-first f
@@ -44,13 +46,13 @@ module _ (w : ℕ) (l : List ℕ) where
   new-whole : (k : ℕ) → NewMirrorRefused l k → Fails ((1, eqb (length l) MIRROR-SIZE) ∷ []) k
   new-whole k (new-length n) = here (ne-eqb _ _ n)
 
-  pub creating-mirror-answers : CreatingMirrorAnswers w l
+  pub creating-mirror-answers : CreatingMirrorAnswers w sitting l
   unfolding creatingMirror unless
   creating-mirror-answers =
       let a =
       answered (λ (o : Written). o .number)
       (found (NewMirrorRefused l) ((1, eqb (length l) MIRROR-SIZE) ∷ []) (unfold ordered placeIn order if_then_else_ in refl) new-sound new-whole)
-      (record { number = 0; bytes = mirrorBytes (newMirror w) }) (record { number = refused _; bytes = l }) (λ e. omega arith) refl in
+      (record { number = 0; bytes = mirrorBytes (newMirror w sitting) }) (record { number = refused _; bytes = l }) (λ e. omega arith) refl in
       record { number = a .refuses; kept = λ h. ap (λ (o : Written). o .bytes) (a .kept h); done = a .done }
 
 -- ---- arrival
@@ -62,10 +64,12 @@ module _ (l b : List ℕ) where
   wide : Bool
   wide = widthWithoutRows (readReport b) (readMirror l)
 
-  -- a step of the next serial is due
-  late-is : getD b KIND 0 ≡ STEP → late ≡ eqb (fourAt b REPORT-SERIAL) (serialOf (drop RECORD l) + 1)
+  -- a step of the next pair is due
+  late-is : getD b KIND 0 ≡ STEP → late
+      ≡ eqb (pairAt b REPORT-PAIR .sitting) (pairOf (drop RECORD l) .sitting) && eqb (pairAt b REPORT-PAIR .serial) (pairOf (drop RECORD l) .serial + 1)
   unfolding late due readReport readFront readMirror readState stampOf
-  late-is e = ap (λ (k : Kind). dueAt k (fourAt b REPORT-SERIAL) (serialOf (drop RECORD l))) (sym (step-byte _ e)) ∙ (unfold dueAt in refl)
+  late-is e =
+      ap (λ (k : Kind). dueAt k (pairAt b REPORT-PAIR) (pairOf (drop RECORD l))) (sym (step-byte _ e)) ∙ (unfold dueAt samePair nextPair in refl)
 
   wide-is : wide ≡ not (eqb (headAt b HEAD .width) (headOf (drop RECORD l) .width)) && not (eqb (fourAt b MASK) ALL-ROWS)
   unfolding wide widthWithoutRows readReport readFront readMirror readState
@@ -73,7 +77,7 @@ module _ (l b : List ℕ) where
 
   wide-fault : WidthWithoutRows l b → late && wide ≡ true
   wide-fault w =
-      and-both _ _ (late-is (w .kind) ∙ eq-eqb _ _ (w .next))
+      and-both _ _ (late-is (w .kind) ∙ and-both _ _ (eq-eqb _ _ (w .sitting)) (eq-eqb _ _ (w .next)))
       (wide-is ∙ and-both _ _ (ap not (ne-eqb _ _ (w .width))) (ap not (ne-eqb _ _ (w .mask))))
 
   fault-wide : reportb b ≡ true → late && wide ≡ true → WidthWithoutRows l b
@@ -86,7 +90,11 @@ module _ (l b : List ℕ) where
     where
       go : KindFits (getD b KIND 0) (fourAt b MASK) → late ≡ true → headAt b HEAD .width ≢ headOf (drop RECORD l) .width
           → fourAt b MASK ≢ ALL-ROWS → WidthWithoutRows l b
-      go (step k m) d w n = record { kind = k; next = eqb-true _ _ (sym (late-is k) ∙ d); width = w; mask = n }
+      go (step k m) d w n =
+          let same : Bool = eqb (pairAt b REPORT-PAIR .sitting) (pairOf (drop RECORD l) .sitting) in
+          let one : Bool = eqb (pairAt b REPORT-PAIR .serial) (pairOf (drop RECORD l) .serial + 1) in
+          let e : same && one ≡ true = sym (late-is k) ∙ d in
+          record { kind = k; sitting = eqb-true _ _ (and-left same one e); next = eqb-true _ _ (and-right same one e); width = w; mask = n }
       go (full k m) d w n = absurd (n m)
 
   -- the width is looked at in valid reports alone

@@ -4,14 +4,15 @@
 use Prim.Native.Nat.{ℕ}
 
 abbrev pub MIRROR-SIZE : ℕ
-MIRROR-SIZE = 4049
+MIRROR-SIZE = 4057
 
 abbrev pub MIRROR-VERSION : ℕ
-MIRROR-VERSION = 1
+MIRROR-VERSION = 2
 
+-- the newest serial and sitting
 abbrev pub NEWEST : ℕ
 NEWEST = 3
 
 -- a screen record
 abbrev pub RECORD : ℕ
-RECORD = 7
+RECORD = 11

@@ -3,29 +3,29 @@ use crate::layout::MIRROR_SIZE;
 use crate::layout::NEWEST;
 use crate::layout::RECORD;
 use crate::mirror;
+use crate::order;
 use bytes::answer::REFUSED;
-use bytes::compare::larger;
-use bytes::number;
 use grid::head;
 use grid::layout::SCREEN_ROWS;
 use grid::layout::STRIDE;
+use grid::pair;
+use grid::pair::Pair;
 use grid::row;
 use report::check::report_ok;
 use report::front::read_front;
 use report::kind::Kind;
 use report::kind::rows_at;
 use report::layout::ALL_ROWS;
-use report::layout::REPORT_SERIAL;
+use report::layout::REPORT_PAIR;
 use report::layout::ROW_SIZE;
 use values::mask;
 ghost use mathlib.Core.Path.{_≡_};
-ghost use Prim.Native.Nat.{_+_, _*_, _≤_, _<_, max};
-ghost use lib.Dec.{eqb};
+ghost use Prim.Native.Nat.{_+_, _*_, _≤_, _<_};
 ghost use lib.ListN.{length, drop};
 ghost use lib.Count.{ones};
 ghost use Rattle.bytes.specs.Answer.{Writes};
 ghost use Rattle.grid.specs.Layout.{SIZE};
-ghost use Rattle.grid.specs.Record.{serialOf, rowsOf, readState, stateBytes, Becomes};
+ghost use Rattle.grid.specs.Record.{pairOf, rowsOf, readState, stateBytes, Becomes};
 ghost use Rattle.report.specs.Layout.{ROW-SIZE};
 ghost use Rattle.report.specs.Carried.{bits, merge};
 ghost use Rattle.report.specs.Report.{carriedRows, readReport};
@@ -37,50 +37,37 @@ ghost use Rattle.mirror.specs.Parts.{Room, Placed, PlacedIf, Ready};
 // What becomes of an arriving report.
 pub enum Arrived {
     Refused(u32),
-    // Old or early: only n can change.
+    // Old, early or of another sitting: only the newest pair can change.
     Noted,
     Applied,
 }
 
-// The later of two serials.
-fn later(a: u32, b: u32) -> u32
-    ensures { λ m. ⌜ m ≡ max a b ⌝ }
-{
-    larger(a as usize, b as usize) as u32
-}
-
 // 1 if level, else 0.
-fn level(m: u32, n: u32) -> u32
-    ensures { λ k. ⌜ k ≡ levelOf m n ⌝ }
+fn level(shown: Pair, newest: Pair) -> u32
+    ensures { λ k. ⌜ k ≡ levelOf shown newest ⌝ }
 {
-    if m == n { 1 } else { 0 }
-}
-
-// The serial of the screen shown.
-fn shown_serial(mir: &[u8]) -> u32
-    requires { ⌜ length (now mir) ≡ MIRROR-SIZE ⌝ }
-    ensures { λ m. ⌜ m ≡ serialOf (drop RECORD (now (mir .entry))) ⌝ }
-{
-    head::read_serial(&mir[RECORD..])
-}
-
-// Is s = m + 1? The last serial has no m + 1.
-fn follows(s: u32, m: u32) -> bool
-    ensures { λ t. ⌜ t ≡ eqb s (m + 1) ⌝ }
-{
-    if s <= m {
-        return false;
+    if order::same_pair(shown, newest) {
+        1
+    } else {
+        0
     }
-    s - m == 1
 }
 
-// A step is applied if s = m + 1, a full report if s > m.
-fn due_at(kind: Kind, s: u32, m: u32) -> bool
-    ensures { λ t. ⌜ t ≡ dueAt kind s m ⌝ }
+// The pair of the screen shown.
+fn shown_pair(mir: &[u8]) -> Pair
+    requires { ⌜ length (now mir) ≡ MIRROR-SIZE ⌝ }
+    ensures { λ p. ⌜ p ≡ pairOf (drop RECORD (now (mir .entry))) ⌝ }
+{
+    head::read_pair(&mir[RECORD..])
+}
+
+// A step is applied at the next serial of the shown sitting, a full report if its pair is later.
+fn due_at(kind: Kind, p: Pair, shown: Pair) -> bool
+    ensures { λ t. ⌜ t ≡ dueAt kind p shown ⌝ }
 {
     match kind {
-        Kind::Step => follows(s, m),
-        Kind::Full => m < s,
+        Kind::Step => order::follows(p, shown),
+        Kind::Full => order::later(p, shown),
     }
 }
 
@@ -89,9 +76,10 @@ fn due(mir: &[u8], report: &[u8]) -> bool
     ensures { λ t. ⌜ t ≡ due (readReport (now (report .entry))) (readMirror (now (mir .entry))) ⌝ }
 {
     let f = read_front(report);
-    let m = shown_serial(mir);
     let kind = f.kind;
-    due_at(kind, f.serial, m)
+    let p = f.pair;
+    let shown = shown_pair(mir);
+    due_at(kind, p, shown)
 }
 
 // Does the report change the width without carrying all 25 rows?
@@ -169,9 +157,10 @@ fn show(rec: &mut [u8], report: &[u8])
     let f = read_front(report);
     let kind = f.kind;
     let h = f.head;
+    let p = f.pair;
     take_rows(rec, report, rows_at(kind), f.mask);
     let stamp = head::Stamp {
-        serial: f.serial,
+        pair: p,
         touched: 0,
     };
     head::write_front(rec, h, stamp);
@@ -181,22 +170,22 @@ fn note(mir: &mut [u8], report: &[u8]) -> u32
     requires { ⌜ Ready (now mir) (now report) ⌝ }
     ensures { λ n. ⌜ Writes (leaving (noted (readReport (now (report .entry))) (readMirror (now (mir .entry))))) n (now (mir .exit)) ⌝ }
 {
-    let m = shown_serial(mir);
-    let s = number::four_at(report, REPORT_SERIAL);
-    let n = later(number::four_at(mir, NEWEST), s);
-    mirror::write_front(mir, n);
-    level(m, n)
+    let p = pair::pair_at(report, REPORT_PAIR);
+    let shown = shown_pair(mir);
+    let newest = order::latest(pair::pair_at(mir, NEWEST), p);
+    mirror::write_front(mir, newest);
+    level(shown, newest)
 }
 
 fn apply(mir: &mut [u8], report: &[u8]) -> u32
     requires { ⌜ Ready (now mir) (now report) ⌝ }
     ensures { λ n. ⌜ Writes (leaving (applied (readReport (now (report .entry))) (readMirror (now (mir .entry))))) n (now (mir .exit)) ⌝ }
 {
-    let s = number::four_at(report, REPORT_SERIAL);
-    let n = later(number::four_at(mir, NEWEST), s);
+    let p = pair::pair_at(report, REPORT_PAIR);
+    let newest = order::latest(pair::pair_at(mir, NEWEST), p);
     show(&mut mir[RECORD..], report);
-    mirror::write_front(mir, n);
-    level(s, n)
+    mirror::write_front(mir, newest);
+    level(p, newest)
 }
 
 // Answers 1 if the mirror is then level, else 0.

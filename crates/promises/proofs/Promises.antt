@@ -2,7 +2,7 @@
 -- Assumes nothing.
 use Rattle.grid.proofs.Bytes.{state-valid, bytes-back}
 use Rattle.grid.proofs.Conditions.{conditions-record, record-facts}
-use Rattle.editor.proofs.Lists.{new-facts, valid-kept}
+use Rattle.editor.proofs.Lists.{new-facts, valid-kept, pair-kept}
 use Rattle.editor.proofs.Refusals.{changing-answers, creating-answers, asking-answers, texting-answers}
 use Rattle.report.proofs.Conditions.{facts-report}
 use Rattle.report.proofs.RoundTrips.{report-bytes-back}
@@ -10,7 +10,7 @@ use Rattle.report.proofs.Refusals.{reporting-answers}
 use Rattle.mirror.proofs.Conditions.{facts-mirror}
 use Rattle.mirror.proofs.RoundTrips.{mirror-bytes-back}
 use Rattle.mirror.proofs.Refusals.{creating-mirror-answers, arrival-answers}
-use Rattle.mirror.proofs.Claims.{demand-3}
+use Rattle.mirror.proofs.Claims.{demand-3, followed}
 use Rattle.keys.proofs.Refusals.{stripping-answers}
 use Rattle.promises.specs.Promises.{Promises}
 use Rattle.promises.proofs.Checked.{checked}
@@ -26,11 +26,13 @@ promises =
       new-mirror = creating-mirror-answers;
       arrivals = arrival-answers;
       strip-call = stripping-answers;
-      new-valid = λ w. record-facts _ (state-valid _ (new-facts w));
+      new-valid = λ w sitting h. record-facts _ (state-valid _ (new-facts w sitting h));
       kept-valid = λ c l b v e. valid-kept c l b v;
+      sitting-kept = pair-kept;
       record-whole = λ l b v. bytes-back l (conditions-record l v) b;
       report-whole = λ b q v. report-bytes-back b (facts-report b v) q;
       mirror-whole = λ m q v. mirror-bytes-back m (facts-mirror m v) q;
       demand-3 = demand-3;
+      restart-followed = followed;
       examples-hold = checked;
     }

@@ -1,15 +1,15 @@
--- Document 01, "Examples": the one list of those marked *. Those of the screen are on values, that of the mirror is on the bytes that arrive and that
--- `arrival` leaves. `proofs/Checked.antt` has that each holds, by computing it.
+-- Document 01, "Examples": the one list of those marked *, and one of document 02, (c). Those of the screen are on values, those of the mirror are on the
+-- bytes that arrive and that `arrival` leaves. `proofs/Checked.antt` has that each holds, by computing it.
 -- Assumes nothing.
 use Prim.Native.Nat.{ℕ}
 use mathlib.Core.Bool.{Bool, _&&_}
 use mathlib.Core.List.{List, [], _∷_, _++_}
-use lib.Dec.{eqb}
 use lib.ListN.{getD, take, drop, replicate}
 use Rattle.bytes.specs.Choice.{if_then_else_}
-use Rattle.bytes.specs.Number.{fourAt}
+use Rattle.grid.specs.Pair.{pairAt}
+use Rattle.grid.specs.declared.pair.Pair.{Pair}
 use Rattle.grid.specs.Screen.{State, rowAt, newState, trim, same}
-use Rattle.grid.specs.Record.{stateBytes, serialOf}
+use Rattle.grid.specs.Record.{stateBytes, pairOf}
 use Rattle.line.specs.Line.{rowText}
 use Rattle.editor.specs.Call.{Call, step}
 use Rattle.editor.specs.Lists.{steps}
@@ -18,13 +18,14 @@ use Rattle.report.specs.declared.kind.Kind.the-variants.{Step}
 use Rattle.report.specs.Report.{reported}
 use Rattle.mirror.specs.Layout.{NEWEST, RECORD}
 use Rattle.mirror.specs.Mirror.{newMirror, mirrorBytes, arrival}
-use Rattle.mirror.specs.Count.{Heard, heardIn, tally}
+use Rattle.mirror.specs.Count.{Heard, heardIn, isLevel, tally}
 
 pub data Example : Type 0 where
   -- on a new screen of the width, after the calls, what is looked at is this
   after : ℕ → List Call → (State → List ℕ) → List ℕ → Example
-  -- of these calls on a new screen, the steps of these serials arrive at a new mirror, and then m, n and the answer are this, each time
-  arrive : List Call → List ℕ → List ℕ → Example
+  -- of these calls on a new screen of each sitting, the steps of these sittings and serials arrive at a mirror that is new at the first number, and then what
+  -- is looked at of the shown and of the newest pair, and the answer, are this, each time
+  arrive : ℕ → List Call → (Pair → List ℕ) → List (ℕ × ℕ) → List ℕ → Example
 
 -- ---- what is looked at
 
@@ -48,6 +49,12 @@ both f g t = f t ++ g t
 
 unfoldable pub next : Call → (State → List ℕ) → State → List ℕ
 next c f t = f (step c t)
+
+unfoldable pub serial : Pair → List ℕ
+serial p = p .serial ∷ []
+
+unfoldable pub pair : Pair → List ℕ
+pair p = p .sitting ∷ p .serial ∷ []
 
 -- ---- the list
 
@@ -77,35 +84,37 @@ examples =
     -- blank screen, `word_right`: (23,79)
     ∷ after 80 (WordRight ∷ []) cursor (23 ∷ 79 ∷ [])
     -- steps 1, 3, 2, 3 arrive: (m, n) is (1,1), (1,3), (2,3), (3,3); and the answer is 1 if that is level, else 0
-    ∷ arrive (TypeChar A ∷ PrintBytes (13 ∷ 66 ∷ []) ∷ Backspace ∷ []) (1 ∷ 3 ∷ 2 ∷ 3 ∷ []) (1 ∷ 1 ∷ 1 ∷ 1 ∷ 3 ∷ 0 ∷ 2 ∷ 3 ∷ 0 ∷ 3 ∷ 3 ∷ 1 ∷ [])
+    ∷ arrive 0 (TypeChar A ∷ PrintBytes (13 ∷ 66 ∷ []) ∷ Backspace ∷ []) serial ((0, 1) ∷ (0, 3) ∷ (0, 2) ∷ (0, 3) ∷ [])
+    (1 ∷ 1 ∷ 1 ∷ 1 ∷ 3 ∷ 0 ∷ 2 ∷ 3 ∷ 0 ∷ 3 ∷ 3 ∷ 1 ∷ [])
+    -- (c): a step of another sitting, whatever its serial, only counts: at a mirror of sitting 5, after its step 1, steps 2 of the sittings 3 and 7, then its own
+    ∷ arrive 5 (TypeChar A ∷ TypeChar A ∷ []) pair ((5, 1) ∷ (3, 2) ∷ (7, 2) ∷ (5, 2) ∷ [])
+    (5 ∷ 1 ∷ 5 ∷ 1 ∷ 1 ∷ 5 ∷ 1 ∷ 5 ∷ 1 ∷ 1 ∷ 5 ∷ 1 ∷ 7 ∷ 2 ∷ 0 ∷ 5 ∷ 2 ∷ 7 ∷ 2 ∷ 0 ∷ [])
     ∷ []
 
 -- ---- the check
 
--- what a record holds after the first k calls
-unfoldable pub stateAfter : List Call → ℕ → State
-stateAfter cs k = steps (take k cs) (newState 80)
-
--- the bytes of the step reports of these serials
-unfoldable pub reports : List Call → List ℕ → List (List ℕ)
+-- the bytes of the step reports of these sittings and serials
+unfoldable pub reports : List Call → List (ℕ × ℕ) → List (List ℕ)
 reports cs [] = []
-reports cs (k ∷ ks) = reported Step (stateBytes (stateAfter cs k)) ∷ reports cs ks
+reports cs (p ∷ ps) = reported Step (stateBytes (steps (take (p .1) cs) (newState 80 (p .0)))) ∷ reports cs ps
 
--- after each arrival m and n, as they stand in the mirror's bytes, and what it answered
-unfoldable pub mirrored : List ℕ → List (List ℕ) → List ℕ
-mirrored l [] = []
-mirrored l (b ∷ bs) =
-    let o = arrival l b in
-    serialOf (drop RECORD (o .bytes)) ∷ fourAt (o .bytes) NEWEST ∷ o .number ∷ mirrored (o .bytes) bs
+module _ (look : Pair → List ℕ) where
+  -- after each arrival the shown and the newest pair, as they stand in the mirror's bytes, and what it answered
+  unfoldable pub mirrored : List ℕ → List (List ℕ) → List ℕ
+  mirrored l [] = []
+  mirrored l (b ∷ bs) =
+      let o = arrival l b in
+      look (pairOf (drop RECORD (o .bytes))) ++ (look (pairAt (o .bytes) NEWEST) ++ (o .number ∷ mirrored (o .bytes) bs))
 
--- the same as it is counted: hs are the kinds and serials of those before, and it answers 1 if m = n
-unfoldable pub counts : List Heard → List (List ℕ) → List ℕ
-counts hs [] = []
-counts hs (b ∷ bs) =
-    let now = hs ++ (heardIn b ∷ []) in
-    let t = tally now in
-    t .m ∷ t .n ∷ (if eqb (t .m) (t .n) then 1 else 0) ∷ counts now bs
+  -- the same as it is counted from a number on: hs is what those before have said, and it answers 1 if the pairs are the same
+  unfoldable pub counts : ℕ → List Heard → List (List ℕ) → List ℕ
+  counts number hs [] = []
+  counts number hs (b ∷ bs) =
+      let now = hs ++ (heardIn b ∷ []) in
+      let t = tally number now in
+      look (t .shown) ++ (look (t .newest) ++ ((if isLevel t then 1 else 0) ∷ counts number now bs))
 
 unfoldable pub holds : Example → Bool
-holds (after w cs look expected) = same (look (steps cs (newState w))) expected
-holds (arrive cs serials expected) = same (mirrored (mirrorBytes (newMirror 80)) (reports cs serials)) expected && same (counts [] (reports cs serials)) expected
+holds (after w cs look expected) = same (look (steps cs (newState w 0))) expected
+holds (arrive number cs look pairs expected) =
+    same (mirrored look (mirrorBytes (newMirror 80 number)) (reports cs pairs)) expected && same (counts look number [] (reports cs pairs)) expected

@@ -48,7 +48,7 @@ fn move_cursor(tag: u8, rec: &mut [u8]) -> u32 {
 
 fn set_up(tag: u8, first: u32, second: u32, rec: &mut [u8]) -> u32 {
     match tag {
-        0 => fresh::new_screen(rec, first),
+        0 => fresh::new_screen(rec, first, second),
         19 => modes::clear(rec),
         20 => modes::set_width(rec, first),
         21 => motion::set_cursor(rec, first, second),

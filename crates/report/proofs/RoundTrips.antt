@@ -14,12 +14,15 @@ use Rattle.bytes.specs.Test.{every, isByte}
 use Rattle.bytes.proofs.Bools.{and-left, and-right, tests}
 use Rattle.bytes.proofs.NumberLaws.{whole4, whole2, isByte-lt, two-back, four-bytes}
 use Rattle.values.proofs.AttrLaws.{attr-back, byte-back}
-use Rattle.grid.specs.Layout.{MASKS, SERIALS}
+use Rattle.grid.specs.Layout.{MASKS}
+use Rattle.grid.specs.Facts.{PairFits}
 use Rattle.grid.specs.Screen.{Row, validHead, validRow}
+use Rattle.grid.specs.Pair.{pairAt}
 use Rattle.grid.specs.Record.{blocks, headAt, rowFrom}
+use Rattle.grid.proofs.PairLaws.{pair-whole, pair-again}
 use Rattle.grid.proofs.Record.{heads-eq}
 use Rattle.grid.proofs.Validity.{head-facts, row-facts}
-use Rattle.report.specs.Layout.{REPORT-VERSION, KIND, REPORT-SERIAL, MASK, HEAD, ROWS, ROW-SIZE}
+use Rattle.report.specs.Layout.{REPORT-VERSION, KIND, REPORT-PAIR, MASK, HEAD, ROWS, ROW-SIZE}
 use Rattle.report.specs.declared.front.Front.{Front}
 use Rattle.report.specs.Kind.{kindByte, maskFits, reportLength}
 use Rattle.report.specs.Report.{Report, reportFront, rowBytes, carriedBytes, reportBytes, readFront, rowIn, carriedRows, readReport, frontb, reportb}
@@ -61,7 +64,7 @@ carried-back w (x ∷ rows) v =
     λ i. row-back w x (carriedBytes rows) here i ∷ rest i
 
 pub record ReportFacts (r : Report) : Type 0 where
-  pub serial : r .front .serial < SERIALS
+  pub pair : PairFits (r .front .pair)
   pub mask : maskFits (r .front .kind) (r .front .mask) ≡ true
   pub head : validHead (r .front .head) ≡ true
   pub rows : every (validRow (r .front .head .width)) (r .rows) ≡ true
@@ -72,13 +75,13 @@ module _ (r : Report) (f : ReportFacts r) where
   small = mask-lt (r .front .kind) (r .front .mask) (f .mask)
 
   front-back : readFront (reportBytes r) ≡ r .front
-  unfolding readFront reportBytes reportFront headAt
+  unfolding readFront reportBytes reportFront headAt pairAt
   front-back =
       let h = head-facts (r .front .head) (f .head) in
       let a = attr-back (r .front .head .attr) (h .foreground) (h .background) in
       λ i. record {
         kind = kind-back (r .front .kind) i;
-        serial = whole4 (r .front .serial) (f .serial) i;
+        pair = pair-whole (r .front .pair) (f .pair) i;
         mask = whole4 (r .front .mask) (omega (arith, small)) i;
         head = record { width = r .front .head .width; cursor = r .front .head .cursor; insert = r .front .head .insert; keys = r .front .head .keys; attr = a i };
       }
@@ -132,13 +135,13 @@ carried-again (suc n) b h =
     ap (λ (x : List ℕ). rowBytes (rowIn b 0) ++ x) (carried-again n (drop ROW-SIZE b) (omega (arith, length-drop ROW-SIZE b))) ∙ row-again b (omega arith)
 
 pub report-bytes-back : (b : List ℕ) → reportb b ≡ true → every isByte b ≡ true → reportBytes (readReport b) ≡ b
-unfolding reportBytes reportFront readReport readFront headAt
+unfolding reportBytes reportFront readReport readFront headAt pairAt
 report-bytes-back b p q =
     let v = report-facts b p in
     let byte : (j : ℕ) → j < length b → getD b j 0 < 256 = λ j k. isByte-lt b j q k in
     let n : bytes2 (reportLength (readFront b .kind) (readFront b .mask)) ≡ getD b 0 0 ∷ getD b 1 0 ∷ [] =
     ap bytes2 (length-from b ∙ sym (v .field ∙ v .size)) ∙ two-back (getD b 0 0) (getD b 1 0) (byte 0 (omega (arith, v .size))) (byte 1 (omega (arith, v .size))) in
-    let s = four-bytes b REPORT-SERIAL q (omega (arith, v .size)) in
+    let s = pair-again b REPORT-PAIR q (omega (arith, v .size)) in
     let m = four-bytes b MASK q (omega (arith, v .size)) in
     let a = byte-back (getD b (HEAD + 5) 0) (byte (HEAD + 5) (omega (arith, v .size))) in
     let r : carriedBytes (readReport b .rows) ≡ drop ROWS b =

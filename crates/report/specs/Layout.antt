@@ -4,23 +4,24 @@
 use Prim.Native.Nat.{ℕ}
 
 abbrev pub REPORT-VERSION : ℕ
-REPORT-VERSION = 1
+REPORT-VERSION = 2
 
 abbrev pub KIND : ℕ
 KIND = 3
 
-abbrev pub REPORT-SERIAL : ℕ
-REPORT-SERIAL = 4
+-- serial and sitting
+abbrev pub REPORT-PAIR : ℕ
+REPORT-PAIR = 4
 
 abbrev pub MASK : ℕ
-MASK = 8
+MASK = 12
 
 -- the record's bytes 3 to 8
 abbrev pub HEAD : ℕ
-HEAD = 12
+HEAD = 16
 
 abbrev pub ROWS : ℕ
-ROWS = 18
+ROWS = 22
 
 -- the bytes of a row: flag, 80 characters, 80 attributes
 abbrev pub ROW-SIZE : ℕ
@@ -28,7 +29,7 @@ ROW-SIZE = 161
 
 -- the longest report, with all 25 rows: the shortest output that is taken
 abbrev pub LONGEST : ℕ
-LONGEST = 4043
+LONGEST = 4047
 
 -- the kinds
 abbrev pub STEP : ℕ

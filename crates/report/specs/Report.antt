@@ -11,10 +11,11 @@ use Rattle.bytes.specs.Answer.{Written, unless, wrote}
 use Rattle.bytes.specs.Number.{bytes2, bytes4, number2, fourAt}
 use Rattle.bytes.specs.Refusals.{firstOf}
 use Rattle.bytes.specs.Test.{every}
+use Rattle.grid.specs.Pair.{pairAt, pairBytes}
 use Rattle.grid.specs.Record.{blocks, headAt, headBytes, readState, rowFrom}
 use Rattle.grid.specs.Refusals.{recordTests}
 use Rattle.grid.specs.Screen.{Row, State, validHead, validRow}
-use Rattle.report.specs.Layout.{REPORT-VERSION, KIND, REPORT-SERIAL, MASK, HEAD, ROW-SIZE, LONGEST}
+use Rattle.report.specs.Layout.{REPORT-VERSION, KIND, REPORT-PAIR, MASK, HEAD, ROW-SIZE, LONGEST}
 use Rattle.report.specs.declared.kind.Kind.{Kind}
 use Rattle.report.specs.declared.front.Front.{Front}
 use Rattle.report.specs.Kind.{kindByte, kindOf, maskOf, maskFits, rowsAt, reportLength}
@@ -27,7 +28,7 @@ pub record Report : Type 0 where
 -- ---- making a report
 
 unfoldable pub frontOf : Kind → State → Front
-frontOf kind t = record { kind = kind; serial = t .stamp .serial; mask = maskOf kind (t .stamp .touched); head = t .screen .head }
+frontOf kind t = record { kind = kind; pair = t .stamp .pair; mask = maskOf kind (t .stamp .touched); head = t .screen .head }
 
 -- it carries the rows of its mask, lowest first
 unfoldable pub reportOf : Kind → State → Report
@@ -37,7 +38,7 @@ reportOf kind t = record { front = frontOf kind t; rows = carry (bits 25 (frontO
 
 unfoldable pub reportFront : Front → List ℕ
 reportFront f =
-    bytes2 (reportLength (f .kind) (f .mask)) ++ (REPORT-VERSION ∷ kindByte (f .kind) ∷ []) ++ bytes4 (f .serial) ++ bytes4 (f .mask) ++ headBytes (f .head)
+    bytes2 (reportLength (f .kind) (f .mask)) ++ (REPORT-VERSION ∷ kindByte (f .kind) ∷ []) ++ pairBytes (f .pair) ++ bytes4 (f .mask) ++ headBytes (f .head)
 
 -- for each row flag, characters, attributes
 unfoldable pub rowBytes : Row → List ℕ
@@ -62,7 +63,7 @@ reporting kind l out = unless (firstOf (recordTests (leb LONGEST (length out)) l
 -- ---- an arriving slice
 
 unfoldable pub readFront : List ℕ → Front
-readFront b = record { kind = kindOf (getD b KIND 0); serial = fourAt b REPORT-SERIAL; mask = fourAt b MASK; head = headAt b HEAD }
+readFront b = record { kind = kindOf (getD b KIND 0); pair = pairAt b REPORT-PAIR; mask = fourAt b MASK; head = headAt b HEAD }
 
 -- the row that stands from index a on
 unfoldable pub rowIn : List ℕ → ℕ → Row

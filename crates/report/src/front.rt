@@ -4,12 +4,14 @@ use crate::kind::Kind;
 use crate::layout::HEAD;
 use crate::layout::KIND;
 use crate::layout::MASK;
-use crate::layout::REPORT_SERIAL;
+use crate::layout::REPORT_PAIR;
 use crate::layout::REPORT_VERSION;
 use crate::layout::ROW_SIZE;
 use bytes::number;
 use grid::head;
 use grid::head::Head;
+use grid::pair;
+use grid::pair::Pair;
 ghost use mathlib.Core.Path.{_≡_};
 ghost use mathlib.Core.List.{_++_};
 ghost use Prim.Native.Nat.{_≤_};
@@ -22,7 +24,7 @@ ghost use Rattle.report.specs.Parts.{Fronts};
 
 pub struct Front {
     pub kind: Kind,
-    pub serial: u32,
+    pub pair: Pair,
     pub mask: u32,
     pub head: Head,
 }
@@ -40,10 +42,11 @@ pub fn front_of(rec: &[u8], kind: Kind) -> Front
     ensures { λ f. ⌜ Fronts kind (now (rec .entry)) f ⌝ }
 {
     let stamp = head::read_stamp(rec);
+    let p = stamp.pair;
     let h = head::read_head(rec);
     Front {
         kind: kind,
-        serial: stamp.serial,
+        pair: p,
         mask: kind::mask_of(kind, stamp.touched),
         head: h,
     }
@@ -55,7 +58,7 @@ pub fn read_front(b: &[u8]) -> Front
 {
     Front {
         kind: kind::kind_of(b[KIND]),
-        serial: number::four_at(b, REPORT_SERIAL),
+        pair: pair::pair_at(b, REPORT_PAIR),
         mask: number::four_at(b, MASK),
         head: head::head_at(b, HEAD),
     }
@@ -66,9 +69,10 @@ pub fn write_front(out: &mut [u8], f: Front)
     ensures { λ _. ⌜ now (out .exit) ≡ reportFront f ++ drop (rowsAt (f .kind)) (now (out .entry)) ⌝ }
 {
     let kind = f.kind;
+    let p = f.pair;
     let h = f.head;
     let n = report_length(kind, f.mask);
-    number::put4(out, REPORT_SERIAL, f.serial);
+    pair::put_pair(out, REPORT_PAIR, p);
     number::put4(out, MASK, f.mask);
     head::put_head(out, HEAD, h);
     out[0] = (n / 256 % 256) as u8;

@@ -28,7 +28,7 @@ struct Record(Vec<u8>);
 
 impl Driver for Record {
     fn new(width: u32) -> Self {
-        Self(new_record(width))
+        Self(new_record(width, 0))
     }
     fn print(&mut self, bytes: &[u8]) {
         ffi::screen_print_bytes(&mut self.0, bytes);
@@ -116,7 +116,7 @@ macro_rules! both {
 
 /// A copy of a record into another.
 fn memcpy(criterion: &mut Criterion) {
-    let (from, mut to) = (new_record(80), new_record(40));
+    let (from, mut to) = (new_record(80, 0), new_record(40, 0));
     let mut group = criterion.benchmark_group("memcpy");
     group.bench_function("record", |bencher| bencher.iter(|| black_box(&mut to).copy_from_slice(black_box(&from))));
     group.finish();
@@ -135,7 +135,7 @@ impl Followed {
         let mut record = Record::new(width);
         record.print(start);
         let (mut mirror, mut report) = (vec![0; reports::MIRROR], vec![0; reports::REPORT]);
-        ffi::mirror_new(&mut mirror, width);
+        ffi::mirror_new(&mut mirror, width, 0);
         let length = ffi::report_full(&record.0, &mut report) as usize;
         assert_eq!(ffi::mirror_arrive(&mut mirror, &report[..length]), 1);
         Self { record, mirror, report, keys: 0 }

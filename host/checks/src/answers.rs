@@ -72,8 +72,8 @@ pub fn record(seed: u64, limit: usize) -> Recording {
 
 fn record_list(list: &List) -> (Vec<u8>, usize) {
     let mut screen = oracle::screen::Screen::new(list.width as usize);
-    let mut rec = oracle::new_record(list.width);
-    let mut bytes = entry(&Call::New(list.width), 0, &[], &rec);
+    let mut rec = oracle::new_record(list.width, list.sitting);
+    let mut bytes = entry(&Call::New(list.width, list.sitting), 0, &[], &rec);
     let mut calls = 1;
     for step in &list.steps {
         let Step::Call(call) = step else { continue };
@@ -108,7 +108,7 @@ pub fn is_the_rusts(bytes: &[u8]) -> Result<bool, String> {
     let mut lists: Vec<List> = Vec::new();
     for entry in entries(bytes)? {
         match (entry.call()?, lists.last_mut()) {
-            (Call::New(width), _) => lists.push(List { width, steps: Vec::new() }),
+            (Call::New(width, sitting), _) => lists.push(List { width, sitting, steps: Vec::new() }),
             (call, Some(list)) => list.steps.push(Step::Call(call)),
             (_, None) => return Err("no recording: it does not begin with a new screen".into()),
         }

@@ -99,7 +99,8 @@ macro_rules! calls {
 calls! {
     lent rec, out;
 
-    New(width: u32 = 80)                => screen_new(rec, *width),              New,      tag 0;
+    New(width: u32 = 80, sitting: u32 = 7)
+                                        => screen_new(rec, *width, *sitting),    New,      tag 0;
 
     PrintBytes(bytes: Vec<u8> = b"WARD 7\r\nBED 12".to_vec())
                                         => screen_print_bytes(rec, bytes),       Changing, tag 1;

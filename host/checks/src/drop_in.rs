@@ -1,4 +1,5 @@
-//! One driver over the Rust's screen and over the drop-in one, which has the same methods: all that a runtime can see must be the same.
+//! One driver over the Rust's screen and over the drop-in one, which has the same methods: all that a runtime can see must be the same, whatever
+//! the sitting.
 use crate::call::{Call, Kind};
 use crate::judge;
 use crate::layout::{ROWS, SIZE};
@@ -6,13 +7,18 @@ use crate::lists::{self, List, Step};
 use crate::oracle::{screen, TextScreen};
 use crate::random::try_all;
 use crate::tally::Tally;
-use futonrobin::drop_in;
+use futonrobin::{drop_in, Shown};
 use std::panic::{catch_unwind, set_hook, take_hook};
 
 /// Random lists of calls from a new screen.
 pub fn random_lists(seed: u64, cases: u32, tally: &mut Tally) -> Result<(), String> {
     try_all(seed, cases, &lists::lists(30), tally, |list, tally| {
-        let (rusts, ours) = (drive::<screen::Screen>(list), drive::<drop_in::Screen>(list));
+        let width = list.width as usize;
+        let mut screen = drop_in::Screen::new(width).in_sitting(list.sitting);
+        let (rusts, ours) = (drive(&mut screen::Screen::new(width), list), drive(&mut screen, list));
+        if screen.proved().sitting() != list.sitting {
+            return Err(format!("the drop-in screen ends in sitting {}", screen.proved().sitting()));
+        }
         let changing = list.steps.iter().filter(|step| matches!(step, Step::Call(call) if call.kind() == Kind::Changing)).count();
         tally.changing += changing as u64;
         tally.others += (ours.len() - changing) as u64;
@@ -34,10 +40,9 @@ struct Seen {
     all: Option<Vec<u8>>,
 }
 
-fn drive<S: TextScreen>(list: &List) -> Vec<Seen> {
-    let mut screen = S::new(list.width as usize);
-    let mut seen: Vec<_> = list.steps.iter().map(|step| see(&mut screen, step)).collect();
-    seen.push(see(&mut screen, &Step::Look));
+fn drive<S: TextScreen>(screen: &mut S, list: &List) -> Vec<Seen> {
+    let mut seen: Vec<_> = list.steps.iter().map(|step| see(screen, step)).collect();
+    seen.push(see(screen, &Step::Look));
     seen
 }
 

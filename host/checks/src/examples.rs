@@ -65,9 +65,9 @@ pub fn starred(tally: &mut Tally) -> Result<(), String> {
 /// The calls, compared one by one with the Rust; at the end both records are asked what the example says.
 fn play(example: &Example, tally: &mut Tally) -> Result<(), String> {
     let mut ours = vec![0; SIZE];
-    Call::New(example.width).make(&mut ours, &mut []);
+    Call::New(example.width, 0).make(&mut ours, &mut []);
     let mut screen = oracle::screen::Screen::new(example.width as usize);
-    let mut rusts = oracle::new_record(example.width);
+    let mut rusts = oracle::new_record(example.width, 0);
     for call in &example.calls {
         let want = trial::single(call, &ours, &[])?;
         tally.count(call, &ours, want.answer);

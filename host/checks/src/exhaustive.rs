@@ -8,7 +8,7 @@ use crate::trial::{self, filler};
 /// The record that these calls leave from a new screen, by the Rust alone.
 fn after(width: u32, calls: &[Call]) -> Vec<u8> {
     let mut screen = oracle::screen::Screen::new(width as usize);
-    let mut rec = oracle::new_record(width);
+    let mut rec = oracle::new_record(width, 0);
     for call in calls {
         screen.change(call);
         rec = oracle::record_after(&rec, &screen);
@@ -172,9 +172,9 @@ fn calls_with_every_argument() -> Vec<Call> {
     let numbers = || (0..=300).chain(NUMBERS);
     let pairs = || NUMBERS.into_iter().flat_map(|a| NUMBERS.into_iter().map(move |b| (a, b)));
     let mut calls = Vec::new();
-    calls.extend(numbers().flat_map(|n| [Call::TypeChar(n), Call::SetAttr(n), Call::SetWidth(n), Call::New(n)]));
+    calls.extend(numbers().flat_map(|n| [Call::TypeChar(n), Call::SetAttr(n), Call::SetWidth(n)]));
     calls.extend(numbers().flat_map(|n| [Call::SetInsert(n), Call::SetKeysOn(n), Call::Continues(n)]));
-    calls.extend(pairs().flat_map(|(a, b)| [Call::SetCursor(a, b), Call::Cell(a, b)]));
+    calls.extend(pairs().flat_map(|(a, b)| [Call::SetCursor(a, b), Call::Cell(a, b), Call::New(a, b)]));
     calls.extend((0..=255).map(|b| Call::PrintBytes(vec![b])));
     calls.extend(strings_over(&[13, 10, b'A', b' ', 7], 4).into_iter().map(Call::PrintBytes));
     calls

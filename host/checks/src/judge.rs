@@ -28,8 +28,8 @@ pub fn outcome(call: &Call, rec: &[u8], out: &[u8]) -> Outcome {
 fn accepted(call: &Call, rec: &[u8], out: &[u8]) -> Outcome {
     match call.kind() {
         Kind::New => {
-            let Call::New(width) = *call else { unreachable!() };
-            Outcome { answer: 0, rec: oracle::new_record(width), out: out.to_vec() }
+            let Call::New(width, sitting) = *call else { unreachable!() };
+            Outcome { answer: 0, rec: oracle::new_record(width, sitting), out: out.to_vec() }
         }
         Kind::Changing => {
             let mut screen = oracle::opened(rec);

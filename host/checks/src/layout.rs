@@ -1,6 +1,6 @@
-//! The screen record of document 01, "The cell grid": where each field stands. The only file here that knows.
+//! The screen record of document 01, "The cell grid", in version 2 (document 02, (c)): where each field stands. The only file here that knows.
 
-pub const SIZE: usize = 4042;
+pub const SIZE: usize = 4046;
 pub const LENGTH_AT: usize = 0;
 pub const VERSION_AT: usize = 2;
 pub const WIDTH_AT: usize = 3;
@@ -10,15 +10,16 @@ pub const INSERT_AT: usize = 6;
 pub const KEYS_AT: usize = 7;
 pub const ATTR_AT: usize = 8;
 const SERIAL_AT: usize = 9;
-const TOUCHED_AT: usize = 13;
-const FLAGS_AT: usize = 17;
-const CHARS_AT: usize = 42;
-const ATTRS_AT: usize = 2042;
+const SITTING_AT: usize = 13;
+const TOUCHED_AT: usize = 17;
+const FLAGS_AT: usize = 21;
+const CHARS_AT: usize = 46;
+const ATTRS_AT: usize = 2046;
 
 /// The bytes before the cells.
 pub const FRONT: usize = CHARS_AT;
 
-pub const VERSION: u8 = 1;
+pub const VERSION: u8 = 2;
 pub const ROWS: usize = 25;
 const STRIDE: usize = 80;
 
@@ -28,6 +29,13 @@ pub const LINE: usize = 255;
 pub const SNAPSHOT: usize = 2024;
 /// A changing call that finds this serial is refused.
 pub const LAST_SERIAL: u32 = u32::MAX;
+
+/// A sitting and a serial. The later of two is that of the larger sitting, in one sitting that of the larger serial: so a derived order has it.
+#[derive(Clone, Copy, PartialEq, Eq, PartialOrd, Ord, Debug)]
+pub struct Pair {
+    pub sitting: u32,
+    pub serial: u32,
+}
 
 pub fn width(rec: &[u8]) -> usize {
     rec[WIDTH_AT] as usize
@@ -59,6 +67,23 @@ pub fn set_serial(rec: &mut [u8], value: u32) {
     set_number(rec, SERIAL_AT, value);
 }
 
+pub fn sitting(rec: &[u8]) -> u32 {
+    number(rec, SITTING_AT)
+}
+
+pub fn set_sitting(rec: &mut [u8], value: u32) {
+    set_number(rec, SITTING_AT, value);
+}
+
+pub fn pair(rec: &[u8]) -> Pair {
+    Pair { sitting: sitting(rec), serial: serial(rec) }
+}
+
+pub fn set_pair(rec: &mut [u8], pair: Pair) {
+    set_sitting(rec, pair.sitting);
+    set_serial(rec, pair.serial);
+}
+
 pub fn touched(rec: &[u8]) -> u32 {
     number(rec, TOUCHED_AT)
 }
@@ -71,10 +96,28 @@ pub fn length_field(rec: &[u8]) -> usize {
     rec[LENGTH_AT] as usize * 256 + rec[LENGTH_AT + 1] as usize
 }
 
+/// The length that a record names, or a report or mirror, which have it in the same place.
+pub fn set_length(bytes: &mut [u8], length: usize) {
+    bytes[LENGTH_AT..LENGTH_AT + 2].copy_from_slice(&(length as u16).to_be_bytes());
+}
+
 /// Length and version, which every record has alike.
 pub fn set_front(rec: &mut [u8]) {
-    rec[LENGTH_AT..LENGTH_AT + 2].copy_from_slice(&(SIZE as u16).to_be_bytes());
+    set_length(rec, SIZE);
     rec[VERSION_AT] = VERSION;
+}
+
+/// The record as version 1 had it: without a sitting.
+pub fn as_version_1(rec: &[u8]) -> Vec<u8> {
+    says_version_1([&rec[..SITTING_AT], &rec[TOUCHED_AT..]].concat())
+}
+
+/// Names version 1, and the length that it has.
+pub fn says_version_1(mut bytes: Vec<u8>) -> Vec<u8> {
+    let length = bytes.len();
+    set_length(&mut bytes, length);
+    bytes[VERSION_AT] = 1;
+    bytes
 }
 
 pub fn flag(rec: &[u8], row: usize) -> u8 {
@@ -112,7 +155,7 @@ pub fn text(rec: &[u8], row: usize) -> &[u8] {
     &chars(rec, row)[..width(rec)]
 }
 
-const FIELDS: [(usize, &str); 13] = [
+const FIELDS: [(usize, &str); 14] = [
     (LENGTH_AT, "length"),
     (VERSION_AT, "version"),
     (WIDTH_AT, "width"),
@@ -122,6 +165,7 @@ const FIELDS: [(usize, &str); 13] = [
     (KEYS_AT, "keys on"),
     (ATTR_AT, "current attribute"),
     (SERIAL_AT, "serial"),
+    (SITTING_AT, "sitting"),
     (TOUCHED_AT, "touched rows"),
     (FLAGS_AT, "flag of row"),
     (CHARS_AT, "character"),

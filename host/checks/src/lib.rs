@@ -2,11 +2,12 @@
 //!
 //! `oracle` brings in the Rust and says what a record is that holds its screen; `judge` adds document 01's refusals, so that every call on
 //! every bytes has one wanted outcome; `trial` makes a call through the archive and compares. The runs are in `random`, `exhaustive`,
-//! `examples`, `refusals` and `drop_in`; `answers` is the file of recorded answers. `strip` has the runs of the key strip, `simulator` those of
-//! reports and mirrors, for which `reports` has document 01's rules.
+//! `examples`, `refusals` and `drop_in`; `answers` is the file of recorded answers. `strip` has the runs of the key strip. Reports and mirrors are
+//! run by `simulator`, over `line`, and one by one by `arrivals`; `reports` has the documents' rules for them.
 #![forbid(unsafe_code)]
 
 pub mod answers;
+pub mod arrivals;
 pub mod call;
 pub mod corners;
 pub mod counts;
@@ -15,6 +16,7 @@ pub mod examples;
 pub mod exhaustive;
 pub mod judge;
 pub mod layout;
+pub mod line;
 pub mod lists;
 pub mod options;
 pub mod oracle;

@@ -19,6 +19,7 @@ pub enum Step {
 #[derive(Clone)]
 pub struct List {
     pub width: u32,
+    pub sitting: u32,
     pub steps: Vec<Step>,
 }
 
@@ -34,7 +35,7 @@ impl fmt::Debug for Step {
 impl fmt::Debug for List {
     /// The calls, one a line; calls that repeat are counted.
     fn fmt(&self, f: &mut fmt::Formatter) -> fmt::Result {
-        write!(f, "  new({})", self.width)?;
+        write!(f, "  new({}, {})", self.width, self.sitting)?;
         let mut rest = self.steps.as_slice();
         while let Some(first) = rest.first() {
             let (shown, mut times) = (format!("{first:?}"), 1);
@@ -49,10 +50,15 @@ impl fmt::Debug for List {
     }
 }
 
-/// Lists of up to `fragments` fragments, from a new screen of either width.
+/// Lists of up to `fragments` fragments, from a new screen of either width in any sitting.
 pub fn lists(fragments: usize) -> impl Strategy<Value = List> {
     let steps = vec(fragment(), 1..fragments).prop_map(|fragments| fragments.concat());
-    (one_of(&[80, 40]), steps).prop_map(|(width, steps)| List { width, steps })
+    (one_of(&[80, 40]), sittings(), steps).prop_map(|(width, sitting, steps)| List { width, sitting, steps })
+}
+
+/// Numbers of sittings: neighbours, those that a wrong order of their bytes would sort otherwise, and any.
+pub fn sittings() -> impl Strategy<Value = u32> {
+    prop_oneof![0..5u32, one_of(&[255, 256, 65_535, 65_536, 1 << 24, 1 << 31, u32::MAX - 1, u32::MAX]), any::<u32>()]
 }
 
 /// Lists for recorded answers: changing calls alone, with short prints.

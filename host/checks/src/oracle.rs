@@ -15,7 +15,7 @@ pub trait TextScreen {
     fn read(&self, call: &Call) -> u32;
     /// The text of a text call.
     fn text(&self, call: &Call) -> Vec<u8>;
-    /// Writes all of a record but serial and touched rows, which the Rust does not have, and the bytes beyond the width.
+    /// Writes all of a record but serial, sitting and touched rows, which the Rust does not have, and the bytes beyond the width.
     fn write(&self, rec: &mut [u8]);
 }
 
@@ -127,18 +127,19 @@ pub fn opened(rec: &[u8]) -> opened::Screen {
     opened::Screen::of_parts(width(rec), rows, cursor(rec), rec[INSERT_AT] == 1, rec[KEYS_AT] == 1, rec[ATTR_AT])
 }
 
-/// The record of a new screen. Serial and touched rows are 0.
-pub fn new_record(width: u32) -> Vec<u8> {
+/// The record of a new screen in a sitting. Serial and touched rows are 0.
+pub fn new_record(width: u32, sitting: u32) -> Vec<u8> {
     let mut rec = vec![0; SIZE];
     screen::Screen::new(width as usize).write(&mut rec);
+    set_sitting(&mut rec, sitting);
     rec
 }
 
-/// The record after an accepted changing call on `before`: the Rust's screen, the next serial, and the rows that differ.
+/// The record after an accepted changing call on `before`: the Rust's screen, the next serial of the same sitting, and the rows that differ.
 pub fn record_after(before: &[u8], screen: &impl TextScreen) -> Vec<u8> {
     let mut after = vec![0; SIZE];
     screen.write(&mut after);
-    set_serial(&mut after, serial(before) + 1);
+    set_pair(&mut after, Pair { sitting: sitting(before), serial: serial(before) + 1 });
     let mask = differing_rows(before, &after);
     set_touched(&mut after, mask);
     after

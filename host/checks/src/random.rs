@@ -77,7 +77,7 @@ impl Debug for Trial {
 
 /// A list, call by call, on a record through the archive and on the Rust's own screen, unchanged.
 fn play(list: &List, tally: &mut Tally) -> Result<(), String> {
-    let mut game = Game::new(list.width)?;
+    let mut game = Game::new(list.width, list.sitting)?;
     for (k, step) in list.steps.iter().enumerate() {
         let done = match step {
             Step::Call(call) => game.call(call, k, tally),
@@ -97,12 +97,12 @@ pub struct Game {
 
 impl Game {
     /// The new screen; its call does not read the buffer's old bytes.
-    pub fn new(width: u32) -> Result<Self, String> {
-        let old = filler(SIZE, width as usize);
-        let want = judge::outcome(&Call::New(width), &old, &[]);
+    pub fn new(width: u32, sitting: u32) -> Result<Self, String> {
+        let (call, old) = (Call::New(width, sitting), filler(SIZE, width as usize));
+        let want = judge::outcome(&call, &old, &[]);
         let mut lent = Lent::new(&old);
-        let answer = Call::New(width).make(lent.bytes_mut(), &mut []);
-        trial::compare(answer, &lent, &Lent::new(&[]), &want).map_err(|difference| format!("new({width}): {difference}"))?;
+        let answer = call.make(lent.bytes_mut(), &mut []);
+        trial::compare(answer, &lent, &Lent::new(&[]), &want).map_err(|difference| format!("{call}: {difference}"))?;
         Ok(Self { lent, screen: oracle::screen::Screen::new(width as usize), record: want.rec })
     }
 

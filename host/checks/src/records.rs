@@ -1,6 +1,6 @@
 //! Random valid records, most of which no list of calls reaches, as proptest makes and shrinks them.
 use crate::layout::*;
-use crate::lists::one_of;
+use crate::lists::{one_of, sittings};
 use proptest::collection::vec;
 use proptest::prelude::*;
 use std::fmt;
@@ -22,6 +22,7 @@ pub struct Head {
     pub keys: bool,
     pub attr: u8,
     pub serial: u32,
+    pub sitting: u32,
     pub touched: u32,
 }
 
@@ -56,7 +57,7 @@ impl Sketch {
         rec[INSERT_AT] = head.insert as u8;
         rec[KEYS_AT] = head.keys as u8;
         rec[ATTR_AT] = head.attr;
-        set_serial(&mut rec, head.serial);
+        set_pair(&mut rec, Pair { sitting: head.sitting, serial: head.serial });
         set_touched(&mut rec, head.touched);
         for (r, row) in self.rows.iter().enumerate() {
             set_flag(&mut rec, r, (self.flags >> r & 1) as u8);
@@ -124,8 +125,17 @@ fn heads() -> impl Strategy<Value = Head> {
     let column = prop_oneof![one_of(&[0usize, 1, 8, 15, 38, 39, 40, 78, 79]), 0..80usize];
     let serial = prop_oneof![0..300u32, one_of(&[255, 256, 65_535, 65_536, LAST_SERIAL - 1, LAST_SERIAL]), any::<u32>()];
     let switches = (any::<bool>(), any::<bool>(), any::<bool>());
-    (row, column, serial, switches, any::<u8>(), 0..1u32 << 25).prop_map(|(row, column, serial, (wide, insert, keys), attr, touched)| {
-        Head { wide, row, column, insert, keys, attr, serial, touched }
+    let stamp = (serial, sittings(), 0..1u32 << 25);
+    (row, column, switches, any::<u8>(), stamp).prop_map(|(row, column, (wide, insert, keys), attr, (serial, sitting, touched))| Head {
+        wide,
+        row,
+        column,
+        insert,
+        keys,
+        attr,
+        serial,
+        sitting,
+        touched,
     })
 }
 

@@ -10,10 +10,13 @@ use crate::trial::{self, filler};
 use proptest::prelude::RngCore;
 use proptest::test_runner::TestRng;
 
-/// A valid record with text, flags, colours, a serial and touched rows.
+/// The samples' sitting: four bytes that differ from each other, none of them at an end.
+const SITTING: u32 = 0x4d20_9b07;
+
+/// A valid record with text, flags, colours, a serial, a sitting and touched rows.
 pub fn sample(width: u32) -> Vec<u8> {
     let mut screen = oracle::screen::Screen::new(width as usize);
-    let mut rec = oracle::new_record(width);
+    let mut rec = oracle::new_record(width, SITTING);
     let calls = [
         Call::SetAttr(0x2b),
         Call::PrintBytes(b"10 PRINT \"WARD 7\"\r\n20 GOTO 10\r\n".to_vec()),
@@ -99,14 +102,29 @@ pub fn every_length(tally: &mut Tally) -> Result<(), String> {
     Ok(())
 }
 
-/// The last serial that a changing call takes, and the one that it refuses.
+/// The last serial that a changing call takes, and the one that it refuses, in every sitting; no number of a sitting is refused.
 pub fn serials(tally: &mut Tally) -> Result<(), String> {
+    let numbers = [0, 1, 255, 256, 65_535, 65_536, (1 << 24) - 1, 1 << 31, LAST_SERIAL - 2, LAST_SERIAL - 1, LAST_SERIAL];
     let mut rec = sample(80);
-    for serial in [0, 1, 255, 256, 65_535, 65_536, (1 << 24) - 1, 1 << 31, LAST_SERIAL - 2, LAST_SERIAL - 1, LAST_SERIAL] {
-        set_serial(&mut rec, serial);
+    for (serial, sitting) in numbers.into_iter().flat_map(|serial| numbers.map(|sitting| (serial, sitting))) {
+        set_pair(&mut rec, Pair { sitting, serial });
         tally.starts += 1;
         for call in call::one_of_each() {
-            attempt(&call, &rec, &filler(call.room(), 3), tally).map_err(|found| format!("serial {serial}: {found}"))?;
+            attempt(&call, &rec, &filler(call.room(), 3), tally).map_err(|found| format!("{:?}: {found}", pair(&rec)))?;
+        }
+    }
+    Ok(())
+}
+
+/// Version 1, as document 01 first had it: a record of that version is refusal 1, one of today's length that says version 1 is 2.
+pub fn version_1(tally: &mut Tally) -> Result<(), String> {
+    let valid = sample(80);
+    for (rec, number) in [(as_version_1(&valid), 1), (says_version_1(valid), 2)] {
+        tally.starts += 1;
+        for call in call::one_of_each().into_iter().filter(|call| call.kind() != Kind::New) {
+            let want = trial::single(&call, &rec, &filler(call.room(), 3)).map_err(|difference| format!("{call}: {difference}"))?;
+            assert_eq!(want.answer, judge::refused(number), "the judge refuses version 1");
+            tally.count(&call, &rec, want.answer);
         }
     }
     Ok(())
@@ -144,11 +162,12 @@ fn faults_beside_the_layout() -> impl Iterator<Item = (bool, usize, bool)> {
 }
 
 /// Ways to break a record's layout, one for each of its rules, and none.
-fn broken_layouts() -> [fn(&mut [u8]); 13] {
+fn broken_layouts() -> [fn(&mut [u8]); 14] {
     [
         |_| {},
         |rec| rec[LENGTH_AT + 1] += 1,
-        |rec| rec[VERSION_AT] = 2,
+        |rec| rec[VERSION_AT] = 1,
+        |rec| rec[VERSION_AT] = 3,
         |rec| rec[WIDTH_AT] = 41,
         |rec| rec[ROW_AT] = 24,
         |rec| rec[COLUMN_AT] = 80,

@@ -33,7 +33,13 @@ macro_rules! changing {
 #[allow(missing_docs)]
 impl Screen {
     pub fn new(width: usize) -> Self {
-        Self { screen: crate::Screen::new(number(width)) }
+        Self { screen: crate::Screen::new(number(width), 0) }
+    }
+
+    /// The new screen in this sitting rather than 0, for a mirror that follows restarts: `Screen::new(80).in_sitting(number)`. What was printed
+    /// before is gone, as in every new screen.
+    pub fn in_sitting(self, number: u32) -> Self {
+        Self { screen: crate::Screen::new(self.screen.width(), number) }
     }
 
     /// The proved screen itself, for reports.

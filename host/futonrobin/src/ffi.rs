@@ -44,7 +44,7 @@ macro_rules! writing {
 }
 
 changing! {
-    screen_new(width);
+    screen_new(width, sitting);
     screen_type_char(ch);
     screen_backspace();
     screen_delete_char();
@@ -67,7 +67,7 @@ changing! {
     screen_set_insert(on);
     screen_set_attr(attr);
     screen_set_keys_on(on);
-    mirror_new(width);
+    mirror_new(width, sitting);
 }
 
 reading! {

@@ -9,8 +9,8 @@
 //! ```
 //! use futonrobin::{Mirror, Screen, Shown};
 //!
-//! let mut screen = Screen::new(80);
-//! let mut mirror = Mirror::new(80);
+//! let mut screen = Screen::new(80, 1);
+//! let mut mirror = Mirror::new(80, 1);
 //! for ch in *b"WARD 7" {
 //!     screen.type_char(ch)?;
 //!     let level = mirror.arrive(screen.report_step())?;
@@ -22,6 +22,9 @@
 //! assert_eq!(mirror.snapshot(), b"WARD 7");
 //! assert!(mirror.arrive(screen.report_full())?);
 //! assert_eq!(mirror.snapshot(), b"wARD 7");
+//! let screen = Screen::new(80, 2); // the terminal restarts, in a sitting of a larger number
+//! assert!(mirror.arrive(screen.report_full())?);
+//! assert_eq!((mirror.sitting(), mirror.serial(), mirror.snapshot()), (2, 0, vec![]));
 //! # Ok::<(), futonrobin::Refusal>(())
 //! ```
 //!
@@ -35,6 +38,7 @@ pub mod ffi;
 mod keys;
 pub mod layout;
 mod mirror;
+mod pair;
 mod refusal;
 mod report;
 mod screen;
@@ -42,6 +46,7 @@ mod shown;
 
 pub use keys::KeyTable;
 pub use mirror::Mirror;
+pub use pair::Pair;
 pub use refusal::Refusal;
 pub use report::{Kind, Report};
 pub use screen::Screen;

@@ -1,23 +1,24 @@
 //! The second screen, which follows the first by reports.
-use crate::layout::{number, MIRROR, NEWEST_AT, SHOWN_AT};
+use crate::layout::{number, MIRROR, NEWEST_AT, NEWEST_SITTING_AT, SHOWN_AT};
 use crate::shown::{brief, kept};
-use crate::{ffi, Refusal, Shown};
+use crate::{ffi, Pair, Refusal, Shown};
 use std::fmt;
 
 /// A mirror of its own. Nothing but arrivals changes it.
 ///
-/// New at its screen's width, it shows that screen after the first m accepted calls, whatever the line does to whole reports: [`Shown::serial`] is
-/// m. It is level if m is the newest serial that it has heard of.
+/// New at the width and the sitting of the first screen whose reports may arrive, it shows the screen of the sitting and serial that it names
+/// ([`Shown::pair`]), whatever the line does to whole reports, of that screen or of later ones that began again at serial 0. It is level if that is
+/// the newest pair that it has heard of.
 #[derive(Clone, PartialEq, Eq)]
 pub struct Mirror {
     bytes: Vec<u8>,
 }
 
 impl Mirror {
-    /// A new mirror, for a screen that is new at this width.
-    pub fn new(width: u32) -> Self {
+    /// A new mirror, for a screen that is new at this width in this sitting.
+    pub fn new(width: u32, sitting: u32) -> Self {
         let mut bytes = vec![0; MIRROR];
-        kept(ffi::mirror_new(&mut bytes, width));
+        kept(ffi::mirror_new(&mut bytes, width, sitting));
         Self { bytes }
     }
 
@@ -38,14 +39,14 @@ impl Mirror {
         Ok(Refusal::of_answer(ffi::mirror_arrive(&mut self.bytes, report.as_ref()))? == 1)
     }
 
-    /// The newest serial that it has heard of.
-    pub fn newest(&self) -> u32 {
-        number(&self.bytes, NEWEST_AT)
+    /// The newest pair that it has heard of.
+    pub fn newest(&self) -> Pair {
+        Pair { sitting: number(&self.bytes, NEWEST_SITTING_AT), serial: number(&self.bytes, NEWEST_AT) }
     }
 
-    /// Whether it shows the newest serial that it has heard of.
+    /// Whether it shows the newest pair that it has heard of.
     pub fn is_level(&self) -> bool {
-        self.serial() == self.newest()
+        self.pair() == self.newest()
     }
 
     /// All its bytes, to be kept elsewhere.

@@ -1,6 +1,6 @@
 //! Reports, as they are made from a screen or taken from a line.
-use crate::layout::{number, KIND_AT, REPORT_SERIAL_AT, REPORT_WIDTH_AT};
-use crate::{Mirror, Refusal};
+use crate::layout::{number, KIND_AT, REPORT_SERIAL_AT, REPORT_SITTING_AT, REPORT_WIDTH_AT};
+use crate::{Mirror, Pair, Refusal};
 use std::fmt;
 
 /// What a report carries.
@@ -12,7 +12,7 @@ pub enum Kind {
     Full,
 }
 
-/// A report that keeps document 01's layout.
+/// A report that keeps the documents' layout.
 #[derive(Clone, PartialEq, Eq)]
 pub struct Report {
     bytes: Vec<u8>,
@@ -27,7 +27,7 @@ impl Report {
     pub fn from_bytes(bytes: &[u8]) -> Result<Self, Refusal> {
         // Arrival is the call that judges a report. At a new mirror of the report's own width nothing else can refuse it.
         let width = bytes.get(REPORT_WIDTH_AT).copied().unwrap_or_default();
-        Mirror::new(width.into()).arrive(bytes)?;
+        Mirror::new(width.into(), 0).arrive(bytes)?;
         Ok(Self { bytes: bytes.to_vec() })
     }
 
@@ -49,11 +49,21 @@ impl Report {
     pub fn serial(&self) -> u32 {
         number(&self.bytes, REPORT_SERIAL_AT)
     }
+
+    /// The sitting of that screen.
+    pub fn sitting(&self) -> u32 {
+        number(&self.bytes, REPORT_SITTING_AT)
+    }
+
+    /// Sitting and serial.
+    pub fn pair(&self) -> Pair {
+        Pair { sitting: self.sitting(), serial: self.serial() }
+    }
 }
 
 impl fmt::Debug for Report {
     fn fmt(&self, f: &mut fmt::Formatter) -> fmt::Result {
-        write!(f, "Report {{ kind: {:?}, serial: {}, .. }}", self.kind(), self.serial())
+        write!(f, "Report {{ kind: {:?}, sitting: {}, serial: {}, .. }}", self.kind(), self.sitting(), self.serial())
     }
 }
 

@@ -22,10 +22,11 @@ macro_rules! changing {
 }
 
 impl Screen {
-    /// A new screen: 40 columns if asked for 40, else 80.
-    pub fn new(width: u32) -> Self {
+    /// A new screen in a sitting: 40 columns if asked for 40, else 80. The number of the sitting is the host's to choose, larger after each restart,
+    /// so that a mirror takes the new screen's reports for later ones than those of the screen before.
+    pub fn new(width: u32, sitting: u32) -> Self {
         let mut record = vec![0; SCREEN];
-        kept(ffi::screen_new(&mut record, width));
+        kept(ffi::screen_new(&mut record, width, sitting));
         Self { record }
     }
 

@@ -1,6 +1,6 @@
 //! What a screen or a mirror shows, read by the exported reading and text calls.
-use crate::layout::{number, INSERT_AT, LINE, SERIAL_AT, SNAPSHOT, TOUCHED};
-use crate::{ffi, Refusal};
+use crate::layout::{number, INSERT_AT, LINE, SERIAL_AT, SITTING_AT, SNAPSHOT, TOUCHED};
+use crate::{ffi, Pair, Refusal};
 use std::fmt;
 
 /// A character and its attribute: foreground is the low nibble, background the high one.
@@ -14,7 +14,7 @@ pub struct Cell {
 
 /// What a screen or a mirror shows.
 pub trait Shown {
-    /// The bytes of its screen record, which keep document 01's layout.
+    /// The bytes of its screen record, which keep the documents' layout.
     fn record(&self) -> &[u8];
 
     /// Columns: 40 or 80.
@@ -53,7 +53,17 @@ pub trait Shown {
         number(self.record(), SERIAL_AT)
     }
 
-    /// Whether both show the same screen at the same serial. The touched rows, which a mirror does not have, are left out.
+    /// The sitting that the screen was new in.
+    fn sitting(&self) -> u32 {
+        number(self.record(), SITTING_AT)
+    }
+
+    /// Sitting and serial: what stands for this screen on a line.
+    fn pair(&self) -> Pair {
+        Pair { sitting: self.sitting(), serial: self.serial() }
+    }
+
+    /// Whether both show the same screen of the same sitting at the same serial. The touched rows, which a mirror does not have, are left out.
     fn same_as(&self, other: &impl Shown) -> bool
     where
         Self: Sized,
@@ -87,8 +97,9 @@ pub trait Shown {
 /// What a screen or mirror shows in a few words, for `Debug`: its bytes would fill pages.
 pub(crate) fn brief(name: &str, shown: &impl Shown, f: &mut fmt::Formatter) -> fmt::Result {
     let text = String::from_utf8_lossy(&shown.snapshot()).into_owned();
-    let (serial, width, cursor) = (shown.serial(), shown.width(), shown.cursor());
+    let (sitting, serial, width, cursor) = (shown.sitting(), shown.serial(), shown.width(), shown.cursor());
     f.debug_struct(name)
+        .field("sitting", &sitting)
         .field("serial", &serial)
         .field("width", &width)
         .field("cursor", &cursor)

@@ -1,12 +1,16 @@
 //! The safe types: what they refuse, and that they hand the calls over as they are meant.
 use futonrobin::layout::{KEY_TABLE, MIRROR, SCREEN};
-use futonrobin::{drop_in, KeyTable, Kind, Mirror, Refusal, Report, Screen, Shown};
+use futonrobin::{drop_in, KeyTable, Kind, Mirror, Pair, Refusal, Report, Screen, Shown};
 
 /// Where document 01 has a record's serial.
 const SERIAL: std::ops::Range<usize> = 9..13;
+/// Where records, reports and mirrors have their version.
+const VERSION: usize = 2;
+
+type Change = fn(&mut Screen) -> Result<(), Refusal>;
 
 fn spent() -> Screen {
-    let mut record = Screen::new(80).record().to_vec();
+    let mut record = Screen::new(80, 3).record().to_vec();
     record[SERIAL].fill(255);
     Screen::from_bytes(&record).unwrap()
 }
@@ -30,12 +34,12 @@ fn refusals_have_document_01s_numbers() {
 
 #[test]
 fn bytes_of_any_origin_are_judged() {
-    let screen = Screen::new(40);
+    let screen = Screen::new(40, 3);
     assert!(Screen::from_bytes(screen.record()) == Ok(screen));
     assert_eq!(Screen::from_bytes(&[0; SCREEN - 1]).err(), Some(Refusal::WrongLength));
     assert_eq!(Screen::from_bytes(&[0; SCREEN]).err(), Some(Refusal::BrokenLayout));
 
-    let mirror = Mirror::new(40);
+    let mirror = Mirror::new(40, 3);
     assert!(Mirror::from_bytes(mirror.as_bytes()) == Ok(mirror));
     assert_eq!(Mirror::from_bytes(&[0; MIRROR + 1]).err(), Some(Refusal::WrongLength));
     assert_eq!(Mirror::from_bytes(&[0; MIRROR]).err(), Some(Refusal::BrokenLayout));
@@ -48,16 +52,110 @@ fn bytes_of_any_origin_are_judged() {
 
 #[test]
 fn reports_of_any_origin_are_judged() {
-    let mut screen = Screen::new(40);
+    let mut screen = Screen::new(40, 3);
     screen.type_char(b'A').unwrap();
     for (report, kind) in [(screen.report_step(), Kind::Step), (screen.report_full(), Kind::Full)] {
-        assert_eq!((report.kind(), report.serial()), (kind, 1));
+        assert_eq!((report.kind(), report.serial(), report.sitting()), (kind, 1, 3));
         assert!(Report::from_bytes(report.as_bytes()) == Ok(report.clone()));
         assert_eq!(Report::from_bytes(&report.as_bytes()[1..]).err(), Some(Refusal::BrokenReport));
     }
     assert_eq!(Report::from_bytes(&[]).err(), Some(Refusal::BrokenReport));
     // It is valid, though a mirror of the other width refuses it.
-    assert_eq!(Mirror::new(80).arrive(screen.report_step()), Err(Refusal::WidthWithoutRows));
+    assert_eq!(Mirror::new(80, 3).arrive(screen.report_step()), Err(Refusal::WidthWithoutRows));
+}
+
+/// The same bytes, but for the version.
+fn of_version_1(bytes: &[u8]) -> Vec<u8> {
+    let mut bytes = bytes.to_vec();
+    assert_eq!(bytes[VERSION], 2);
+    bytes[VERSION] = 1;
+    bytes
+}
+
+#[test]
+fn version_1_is_refused() {
+    let (screen, mirror) = (Screen::new(40, 3), Mirror::new(40, 3));
+    assert_eq!(Screen::from_bytes(&of_version_1(screen.record())).err(), Some(Refusal::BrokenLayout));
+    assert_eq!(Screen::from_bytes(&[0; 4042]).err(), Some(Refusal::WrongLength));
+    assert_eq!(Mirror::from_bytes(&of_version_1(mirror.as_bytes())).err(), Some(Refusal::BrokenLayout));
+    assert_eq!(Mirror::from_bytes(&[0; 4049]).err(), Some(Refusal::WrongLength));
+    for report in [screen.report_step(), screen.report_full()] {
+        assert_eq!(Report::from_bytes(&of_version_1(report.as_bytes())).err(), Some(Refusal::BrokenReport));
+        // without the sitting, as version 1 was
+        let mut old = of_version_1(&[&report.as_bytes()[..8], &report.as_bytes()[12..]].concat());
+        let length = old.len() as u16;
+        old[..2].copy_from_slice(&length.to_be_bytes());
+        assert_eq!(Report::from_bytes(&old).err(), Some(Refusal::BrokenReport));
+    }
+}
+
+#[test]
+fn every_sitting_is_taken_and_answered() {
+    for sitting in [0, 1, 255, 256, 0x0102_0304, 1 << 31, u32::MAX] {
+        let (screen, mirror) = (Screen::new(40, sitting), Mirror::new(40, sitting));
+        let new = Pair { sitting, serial: 0 };
+        assert_eq!((screen.sitting(), screen.pair()), (sitting, new));
+        assert_eq!((mirror.sitting(), mirror.pair(), mirror.newest(), mirror.is_level()), (sitting, new, new, true));
+        assert_eq!((screen.report_step().sitting(), screen.report_full().pair()), (sitting, new));
+        assert!(mirror.same_as(&screen));
+    }
+}
+
+#[test]
+fn changing_calls_keep_the_sitting() {
+    let mut screen = Screen::new(80, 0x0102_0304);
+    let calls: [Change; 8] = [
+        |screen| screen.print_bytes(&[b'A'; 3000]),
+        |screen| screen.type_char(b'B'),
+        Screen::escape_line,
+        Screen::clear,
+        |screen| screen.set_width(40),
+        |screen| screen.set_cursor(9, 9),
+        |screen| screen.set_keys_on(false),
+        |screen| screen.take_logical_line().map(|_| ()),
+    ];
+    for (call, serial) in calls.iter().zip(1..) {
+        call(&mut screen).unwrap();
+        assert_eq!(screen.pair(), Pair { sitting: 0x0102_0304, serial });
+    }
+}
+
+#[test]
+fn pairs_are_ordered_by_the_sitting_first() {
+    let pair = |sitting, serial| Pair { sitting, serial };
+    assert!(pair(1, 9) < pair(2, 0) && pair(2, 0) < pair(2, 1) && pair(255, u32::MAX) < pair(256, 0));
+    assert_eq!(pair(2, 7).to_string(), "call 7 of sitting 2");
+}
+
+#[test]
+fn a_mirror_follows_a_restart() {
+    let pair = |sitting, serial| Pair { sitting, serial };
+    let (mut first, mut mirror) = (Screen::new(40, 3), Mirror::new(40, 3));
+    first.print_bytes(b"WARD 7").unwrap();
+    assert_eq!(mirror.arrive(first.report_step()), Ok(true));
+
+    let mut second = Screen::new(80, 4);
+    second.type_char(b'A').unwrap();
+    second.type_char(b'B').unwrap();
+    // It is the serial that would be next, but of another sitting, and of another width: it only counts.
+    assert_eq!(mirror.arrive(second.report_step()), Ok(false));
+    assert_eq!((mirror.pair(), mirror.newest()), (pair(3, 1), pair(4, 2)));
+    assert!(mirror.same_as(&first));
+    // A step of the shown sitting is still applied.
+    first.home().unwrap();
+    assert_eq!(mirror.arrive(first.report_step()), Ok(false));
+    assert_eq!((mirror.pair(), mirror.newest()), (pair(3, 2), pair(4, 2)));
+
+    assert_eq!(mirror.arrive(second.report_full()), Ok(true));
+    assert!(mirror.same_as(&second));
+    assert_eq!((mirror.width(), mirror.snapshot()), (80, b"AB".to_vec()));
+    // What comes late of the sitting before is old, whatever its serial.
+    (0..9).for_each(|_| first.type_char(b'X').unwrap());
+    assert_eq!(mirror.arrive(first.report_full()), Ok(true));
+    assert!(mirror.same_as(&second));
+    second.type_char(b'C').unwrap();
+    assert_eq!(mirror.arrive(second.report_step()), Ok(true));
+    assert!(mirror.same_as(&second));
 }
 
 #[test]
@@ -73,7 +171,7 @@ fn a_spent_serial_refuses_every_changing_call() {
 
 #[test]
 fn arguments_out_of_range_are_refused() {
-    let mut screen = Screen::new(40);
+    let mut screen = Screen::new(40, 3);
     assert!(screen.cell(24, 39).is_ok());
     assert_eq!(screen.cell(24, 40), Err(Refusal::OutOfRange));
     assert_eq!(screen.cell(25, 0), Err(Refusal::OutOfRange));
@@ -88,7 +186,7 @@ fn arguments_out_of_range_are_refused() {
 
 #[test]
 fn what_is_typed_is_shown() {
-    let mut screen = Screen::new(80);
+    let mut screen = Screen::new(80, 3);
     assert_eq!((screen.width(), screen.cursor(), screen.attr(), screen.insert_mode()), (80, (0, 0), 7, false));
     screen.set_attr(0x1e).unwrap();
     screen.print_bytes(b"AB").unwrap();
@@ -133,19 +231,34 @@ fn the_drop_in_panics_where_no_signature_has_room() {
 }
 
 #[test]
+fn the_drop_in_in_a_sitting() {
+    assert_eq!(drop_in::Screen::new(80).proved().pair(), Pair { sitting: 0, serial: 0 });
+    let mut screen = drop_in::Screen::new(40).in_sitting(9);
+    let mut mirror = Mirror::new(40, 9);
+    assert!(mirror.same_as(screen.proved()));
+    screen.print_str("WARD 7");
+    assert_eq!(mirror.arrive(screen.proved().report_step()), Ok(true));
+    assert_eq!((mirror.pair(), mirror.snapshot()), (Pair { sitting: 9, serial: 1 }, b"WARD 7".to_vec()));
+    // A new screen, in whatever sitting.
+    assert!(screen.in_sitting(10).proved() == &Screen::new(40, 10));
+}
+
+#[test]
 fn what_differs_is_not_the_same() {
-    let screen = |text: &[u8], change: fn(&mut Screen) -> Result<(), Refusal>| {
-        let mut screen = Screen::new(80);
+    let screen_in = |sitting: u32, text: &[u8], change: Change| {
+        let mut screen = Screen::new(80, sitting);
         text.iter().for_each(|&ch| screen.type_char(ch).unwrap());
         change(&mut screen).unwrap();
         screen
     };
+    let screen = |text: &[u8], change| screen_in(3, text, change);
     let one = screen(b"AB", Screen::home);
     assert!(one.same_as(&one.clone()));
-    let mut mirror = Mirror::new(80);
+    let mut mirror = Mirror::new(80, 3);
     mirror.arrive(one.report_full()).unwrap();
     assert!(mirror.same_as(&one), "touched rows are left out");
-    let others: [Screen; 6] = [
+    let others: [Screen; 7] = [
+        screen_in(4, b"AB", Screen::home),
         screen(b"AC", Screen::home),
         screen(b"AB", Screen::move_left),
         screen(b"AB", Screen::ctrl_enter),

@@ -11,6 +11,9 @@ pub const HELP: &str = "\
   --loss N  --repeat N  --reorder N   how many datagrams in a hundred the line loses, repeats, reorders (likewise)
                                       those that are not named are then 0
   --seed N                            what decides which ones (likewise); printed where it matters
+  --sitting N                         for the candidate: the number of its sitting, to be larger after each restart; without it the
+                                      seconds of the clock, but at least one more than the last, which is kept in the file
+                                      futonrobin/sitting of $XDG_STATE_HOME or ~/.local/state
   --keys FILE                         for candidate and invigilator, without a terminal: the candidate presses these keys,
                                       the invigilator compares its mirror with them after every arrival
   --help                              these lines
@@ -31,6 +34,7 @@ pub struct Arguments {
     pub width: Option<u32>,
     pub faults: Option<Faults>,
     pub seed: Option<u64>,
+    pub sitting: Option<u32>,
     pub keys: Option<String>,
 }
 
@@ -38,7 +42,7 @@ pub struct Arguments {
 pub fn read(words: impl IntoIterator<Item = String>) -> Result<Option<Arguments>, String> {
     let mut words = words.into_iter().peekable();
     let program = words.next_if(|word| !word.starts_with('-'));
-    let mut arguments = Arguments { place: Place::Both, width: None, faults: None, seed: None, keys: None };
+    let mut arguments = Arguments { place: Place::Both, width: None, faults: None, seed: None, sitting: None, keys: None };
     let mut address = None;
     while let Some(word) = words.next() {
         let mut value = || words.next().ok_or_else(|| format!("{word} needs a value after it; ./run --help lists the words"));
@@ -49,6 +53,7 @@ pub fn read(words: impl IntoIterator<Item = String>) -> Result<Option<Arguments>
             ("--keys", Some("candidate" | "invigilator")) => arguments.keys = Some(value()?),
             ("--width", None | Some("candidate")) => arguments.width = Some(width_of(&value()?)?),
             ("--seed", None | Some("candidate")) => arguments.seed = Some(number_of(&word, &value()?, u64::MAX)?),
+            ("--sitting", Some("candidate")) => arguments.sitting = Some(number_of(&word, &value()?, u32::MAX.into())? as u32),
             ("--loss" | "--repeat" | "--reorder", None | Some("candidate")) => {
                 let percent = number_of(&word, &value()?, 100)? as u32;
                 let faults = arguments.faults.get_or_insert_with(Faults::default);

@@ -50,9 +50,20 @@ impl Canvas {
         }
     }
 
+    /// A text that the edge cuts shows that it goes on: else the first digits of a number would read as another number.
     pub fn text(&mut self, row: usize, col: usize, text: &str, attr: u8) {
-        for (at, ch) in text.chars().enumerate() {
+        let room = self.size.cols.saturating_sub(col);
+        for (at, ch) in fitting(text, room).chars().enumerate() {
             self.put(row, col + at, Spot { ch, attr });
+        }
+    }
+
+    /// Texts in one row, two spaces between them.
+    pub fn parts(&mut self, row: usize, left: usize, parts: &[(String, u8)]) {
+        let mut col = left;
+        for (text, attr) in parts.iter().filter(|(text, _)| !text.is_empty()) {
+            self.text(row, col, text, *attr);
+            col += text.chars().count() + 2;
         }
     }
 
@@ -97,16 +108,31 @@ impl Canvas {
         let (has, needs) = (format!("{} columns and {} rows", size.cols, size.rows), format!("{} and {}", needed.cols, needed.rows));
         let sentence =
             format!("The terminal is too small: it has {has}, and {needs} are needed. Make it larger, or press Ctrl-Q to leave.");
-        let mut place = (0, 0);
-        for word in sentence.split(' ') {
-            if place.1 > 0 && place.1 + word.len() > size.cols {
-                place = (place.0 + 1, 0);
-            }
-            canvas.text(place.0, place.1, word, STRONG);
-            place.1 += word.len() + 1;
+        for (row, line) in wrapped(&sentence, size.cols).iter().enumerate() {
+            canvas.text(row, 0, line, STRONG);
         }
         canvas
     }
+}
+
+/// The text, or as much of it as fits into so many columns, the last of them then being `…`.
+pub fn fitting(text: &str, cols: usize) -> String {
+    if text.chars().count() <= cols {
+        return text.into();
+    }
+    text.chars().take(cols.saturating_sub(1)).chain(['…']).take(cols).collect()
+}
+
+/// The words of a sentence in lines of at most so many columns; a longer word, as a path may be, is broken.
+pub fn wrapped(sentence: &str, cols: usize) -> Vec<String> {
+    let mut lines: Vec<String> = Vec::new();
+    for word in sentence.split(' ') {
+        match lines.last_mut() {
+            Some(line) if line.chars().count() + 1 + word.chars().count() <= cols => *line += &format!(" {word}"),
+            _ => lines.extend(word.chars().collect::<Vec<_>>().chunks(cols.max(1)).map(|piece| piece.iter().collect())),
+        }
+    }
+    lines
 }
 
 /// The stretches of one attribute that differ from what stood there, or all of them: column, text, attribute.
@@ -129,6 +155,38 @@ pub fn differing(before: Option<&[Spot]>, row: &[Spot]) -> Vec<(usize, String, u
 #[cfg(test)]
 mod tests {
     use super::*;
+
+    #[test]
+    fn lines_are_as_long_as_they_may_be() {
+        assert_eq!(wrapped("WARD 7, BED 12 is free", 12), ["WARD 7, BED", "12 is free"]);
+        assert_eq!(wrapped("WARD 7, BED 12 is free", 5), ["WARD", "7,", "BED", "12 is", "free"]);
+    }
+
+    #[test]
+    fn a_long_word_is_broken() {
+        assert_eq!(wrapped("overlong", 5), ["overl", "ong"]);
+        assert_eq!(wrapped("in /var/lib/ward/7 it is", 8), ["in", "/var/lib", "/ward/7", "it is"]);
+        assert_eq!(wrapped("BED", 0), ["B", "E", "D"], "a terminal may say that it has no columns");
+    }
+
+    #[test]
+    fn what_the_edge_cuts_shows_it() {
+        let shown = |text: &str| {
+            let mut canvas = Canvas::new(Size { cols: 14, rows: 1 });
+            canvas.text(0, 2, text, PLAIN);
+            canvas.row(0).iter().map(|spot| spot.ch).collect::<String>()
+        };
+        assert_eq!(shown("BEHIND by 12"), "  BEHIND by 12");
+        assert_eq!(shown("BEHIND by 123"), "  BEHIND by 1…");
+        assert_eq!((fitting("12", 1), fitting("12", 0)), ("…".into(), "".into()));
+    }
+
+    #[test]
+    fn parts_of_a_row() {
+        let mut canvas = Canvas::new(Size { cols: 16, rows: 1 });
+        canvas.parts(0, 1, &[("BED".into(), PLAIN), (String::new(), PLAIN), ("12".into(), STRONG), ("is free".into(), PLAIN)]);
+        assert_eq!(canvas.row(0).iter().map(|spot| spot.ch).collect::<String>(), " BED  12  is fr…");
+    }
 
     #[test]
     fn only_what_differs_is_painted() {

@@ -13,8 +13,8 @@ pub struct Desk {
 }
 
 impl Desk {
-    pub fn new(width: u32) -> Self {
-        Self { screen: Screen::new(width), table: KeyTable::standard(), submitted: Vec::new() }
+    pub fn new(width: u32, sitting: u32) -> Self {
+        Self { screen: Screen::new(width, sitting), table: KeyTable::standard(), submitted: Vec::new() }
     }
 
     pub fn other_width(&self) -> u32 {

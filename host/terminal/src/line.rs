@@ -1,6 +1,7 @@
 //! A bad line: it loses, repeats and reorders what is sent over it. The seed decides what happens.
 use oorandom::Rand32;
 use std::fmt;
+use std::hash::{BuildHasher, Hasher, RandomState};
 
 /// How often each happens in a hundred datagrams.
 #[derive(Clone, Copy, PartialEq, Eq, Default, Debug)]
@@ -73,6 +74,11 @@ impl Line {
     fn happens(&mut self, percent: u32) -> bool {
         self.random.rand_range(0..100) < percent
     }
+}
+
+/// A seed that nobody chose, short enough to be typed again. A hasher of the standard library is keyed from the system's randomness.
+pub fn new_seed() -> u64 {
+    RandomState::new().build_hasher().finish() >> 32
 }
 
 #[cfg(test)]

@@ -2,12 +2,10 @@
 #![forbid(unsafe_code)]
 use std::io::{self, IsTerminal};
 use std::process::exit;
-use std::time::Instant;
 use terminal::arguments::{self, Arguments, Place};
-use terminal::halves::{self, Halves};
 use terminal::keys::{self, Key};
-use terminal::line::Faults;
-use terminal::{candidate, invigilator, played, sender};
+use terminal::line::{new_seed, Faults};
+use terminal::{candidate, halves, invigilator, played, sitting};
 
 fn main() {
     let Some(arguments) = arguments::read(std::env::args().skip(1)).unwrap_or_else(|sentence| end(2, &sentence)) else {
@@ -25,18 +23,24 @@ fn end(status: i32, sentence: &str) -> ! {
     exit(status)
 }
 
-fn run(Arguments { place, width, faults, seed, keys }: Arguments) -> Result<bool, String> {
+fn run(Arguments { place, width, faults, seed, sitting, keys }: Arguments) -> Result<bool, String> {
     let in_terminal = io::stdin().is_terminal() && io::stdout().is_terminal();
-    let seed = seed.unwrap_or_else(|| sender::random_number() >> 32);
+    let seed = seed.unwrap_or_else(new_seed);
     let keys = keys.map(|file| from_file(&file)).transpose()?;
     let columns = width.unwrap_or(80);
     let done = match (place, keys) {
         (Place::Both, _) if in_terminal => both(width, faults.unwrap_or(halves::FAULTS), seed),
         (Place::Both, _) => played::play(&played::recorded(), columns, faults.unwrap_or(Faults::BAD), seed, &mut io::stdout().lock()),
-        (Place::To(to), Some(keys)) => candidate::with_keys(to, columns, faults.unwrap_or_default(), seed, &keys),
+        (_, None) if !in_terminal => return Err("standard input and output are no terminal; without one, --keys FILE has the keys".into()),
+        (Place::To(to), keys) => {
+            let sitting = sitting::of_this_start(sitting)?;
+            let start = candidate::Start { to, width: columns, faults: faults.unwrap_or_default(), seed, sitting };
+            match keys {
+                Some(keys) => candidate::with_keys(start, &keys),
+                None => candidate::in_terminal(start).map(|()| true),
+            }
+        }
         (Place::Listen(listen), Some(keys)) => invigilator::with_keys(listen, &keys),
-        _ if !in_terminal => return Err("standard input and output are no terminal; without one, --keys FILE has the keys".into()),
-        (Place::To(to), None) => candidate::in_terminal(to, columns, faults.unwrap_or_default(), seed).map(|()| true),
         (Place::Listen(listen), None) => invigilator::in_terminal(listen).map(|()| true),
     };
     done.map_err(|problem| match place {
@@ -48,7 +52,7 @@ fn run(Arguments { place, width, faults, seed, keys }: Arguments) -> Result<bool
 /// Both screens, as wide as the terminal has room for.
 fn both(width: Option<u32>, faults: Faults, seed: u64) -> io::Result<bool> {
     let widest = if terminal::terminal::size()?.cols > 160 { 80 } else { 40 };
-    terminal::terminal::run(&mut Halves::new(width.unwrap_or(widest), faults, seed, Instant::now()))?;
+    halves::in_terminal(width.unwrap_or(widest), faults, seed)?;
     Ok(true)
 }
 

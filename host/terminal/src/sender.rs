@@ -1,8 +1,7 @@
 //! The candidate's end of the line: which reports go out, and when.
-use crate::datagram::{self, Datagram, Run};
+use crate::datagram::{self, Datagram};
 use crate::line::Line;
 use futonrobin::{Kind, Report, Screen};
-use std::hash::{BuildHasher, Hasher};
 use std::time::{Duration, Instant};
 
 /// After so long without a report, a full one.
@@ -12,7 +11,8 @@ const OFTEN: Duration = Duration::from_secs(3);
 const STEPS: u32 = 25;
 
 pub struct Sender {
-    pub run: Run,
+    /// Of the new screen.
+    width: u8,
     pub line: Line,
     pub sent: u64,
     last: Instant,
@@ -22,8 +22,8 @@ pub struct Sender {
 
 impl Sender {
     pub fn new(width: u32, line: Line, now: Instant) -> Self {
-        let run = Run { number: random_number(), width: if width == 40 { 40 } else { 80 } };
-        Self { run, line, sent: 0, last: now, last_full: now, steps: 0 }
+        let width = if width == 40 { 40 } else { 80 };
+        Self { width, line, sent: 0, last: now, last_full: now, steps: 0 }
     }
 
     /// Sends a report; the datagrams that leave the line now.
@@ -35,7 +35,7 @@ impl Sender {
         } else {
             self.steps += 1;
         }
-        let datagram = datagram::write(self.run, Datagram::Report(report.as_bytes()));
+        let datagram = datagram::write(Datagram::Report { width: self.width, report: report.as_bytes() });
         let leaving = self.line.send(datagram);
         self.sent += leaving.len() as u64;
         leaving
@@ -59,11 +59,6 @@ impl Sender {
     }
 }
 
-/// A hasher of the standard library is keyed from the system's randomness.
-pub fn random_number() -> u64 {
-    std::collections::hash_map::RandomState::new().build_hasher().finish()
-}
-
 #[cfg(test)]
 mod tests {
     use super::*;
@@ -72,11 +67,11 @@ mod tests {
 
     #[test]
     fn full_reports_when_they_are_due() {
-        let (begun, mut screen) = (Instant::now(), Screen::new(40));
+        let (begun, mut screen) = (Instant::now(), Screen::new(40, 5));
         let mut sender = Sender::new(40, Line::new(Faults::default(), 1), begun);
         let due = |sender: &mut Sender, screen: &Screen, millis: u64| {
             let leaving = sender.full_if_due(screen, begun + Duration::from_millis(millis));
-            leaving.iter().any(|bytes| matches!(datagram::read(bytes), Some((_, Datagram::Report(report))) if report.len() == REPORT))
+            leaving.iter().any(|bytes| matches!(datagram::read(bytes), Some(Datagram::Report { report, .. }) if report.len() == REPORT))
         };
         assert!(!due(&mut sender, &screen, 999));
         assert!(due(&mut sender, &screen, 1000), "the line was silent");

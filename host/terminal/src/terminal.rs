@@ -25,8 +25,11 @@ pub enum Input {
     Repeat,
     Reorder,
     Cut,
-    /// The invigilator follows the run that was heard of last.
-    Follow,
+    /// The candidate of the simulated line restarts.
+    Restart,
+    /// The invigilator looks at the sitting before, and at the one after.
+    Back,
+    Forth,
     Resized(Size),
 }
 
@@ -175,7 +178,12 @@ fn colour(nibble: u8) -> Color {
 /// What a key means. Alt with a character is sent as Esc and then the character, and is taken for these.
 fn pressed(KeyEvent { code, modifiers, .. }: KeyEvent) -> Vec<Input> {
     let escape = matches!(code, KeyCode::Char(_)) && modifiers.contains(KeyModifiers::ALT);
-    let meant = if modifiers.contains(KeyModifiers::CONTROL) { with_ctrl(code) } else { plain(code).map(Input::Key) };
+    let meant = match code {
+        KeyCode::PageUp => Some(Input::Back),
+        KeyCode::PageDown => Some(Input::Forth),
+        _ if modifiers.contains(KeyModifiers::CONTROL) => with_ctrl(code),
+        _ => plain(code).map(Input::Key),
+    };
     escape.then_some(Input::Key(Key::Escape)).into_iter().chain(meant).collect()
 }
 
@@ -216,7 +224,7 @@ fn with_ctrl(code: KeyCode) -> Option<Input> {
         KeyCode::Char('r' | 'R') => Input::Repeat,
         KeyCode::Char('o' | 'O') => Input::Reorder,
         KeyCode::Char('x' | 'X') => Input::Cut,
-        KeyCode::Char('n' | 'N') => Input::Follow,
+        KeyCode::Char('n' | 'N') => Input::Restart,
         _ => return None,
     })
 }
@@ -258,11 +266,24 @@ mod tests {
         for (code, modifiers, key) in table {
             assert_eq!(pressed(KeyEvent::new(code, modifiers)), [Input::Key(key)], "{code:?} {modifiers:?}");
         }
-        assert_eq!(pressed(KeyEvent::new(KeyCode::Char('q'), ctrl)), [Input::Leave]);
         let alt = pressed(KeyEvent::new(KeyCode::Char('x'), KeyModifiers::ALT));
         assert_eq!(alt, [Input::Key(Key::Escape), Input::Key(Key::Char(b'x'))]);
         assert_eq!(pressed(KeyEvent::new(KeyCode::F(11), none)), []);
         assert_eq!(pressed(KeyEvent::new(KeyCode::Char('€'), none)), []);
+    }
+
+    #[test]
+    fn commands_mean_what_host_readme_says() {
+        let (none, ctrl) = (KeyModifiers::NONE, KeyModifiers::CONTROL);
+        let commands = [
+            (KeyCode::Char('q'), ctrl, Input::Leave),
+            (KeyCode::Char('n'), ctrl, Input::Restart),
+            (KeyCode::PageUp, none, Input::Back),
+            (KeyCode::PageDown, none, Input::Forth),
+        ];
+        for (code, modifiers, input) in commands {
+            assert_eq!(pressed(KeyEvent::new(code, modifiers)), [input], "{code:?} {modifiers:?}");
+        }
     }
 
     #[test]

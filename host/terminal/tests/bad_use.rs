@@ -1,9 +1,14 @@
 //! Words that cannot be taken get a sentence on standard error and a status that is not 0.
+use std::fs;
 use std::net::UdpSocket;
 use std::process::{Command, Output, Stdio};
 
+/// Where the sittings of these tests are kept.
+const STATE: &str = concat!(env!("CARGO_TARGET_TMPDIR"), "/state-of-bad-use");
+
 fn screens(words: &str) -> Output {
-    Command::new(env!("CARGO_BIN_EXE_screens")).args(words.split_whitespace()).stdin(Stdio::null()).output().unwrap()
+    let mut command = Command::new(env!("CARGO_BIN_EXE_screens"));
+    command.args(words.split_whitespace()).env("XDG_STATE_HOME", STATE).stdin(Stdio::null()).output().unwrap()
 }
 
 fn refused(words: &str, status: i32, sentence: &str) {
@@ -24,6 +29,22 @@ fn words() {
     refused("--loss 101", 2, "--loss takes a number from 0 to 100, not '101'");
     refused("--width 60", 2, "--width takes 40 or 80, not '60'");
     refused("--seed x", 2, "--seed takes a number");
+}
+
+#[test]
+fn sittings() {
+    let range = "--sitting takes a number from 0 to 4294967295, not";
+    for bad in ["x", "-1", "1.5", "4294967296"] {
+        refused(&format!("candidate --to 127.0.0.1:4000 --sitting {bad}"), 2, &format!("{range} '{bad}'"));
+    }
+    refused("candidate --to 127.0.0.1:4000 --sitting", 2, "--sitting needs a value after it");
+    refused("invigilator --listen 127.0.0.1:4000 --sitting 3", 2, "'--sitting' is not understood here");
+    refused("--sitting 3", 2, "'--sitting' is not understood here");
+    fs::create_dir_all(format!("{STATE}/futonrobin")).unwrap();
+    fs::write(format!("{STATE}/futonrobin/sitting"), "4294967295\n").unwrap();
+    refused("candidate --to 127.0.0.1:4000 --keys /dev/null", 1, "there is no larger one");
+    refused("candidate --to 127.0.0.1:4000 --keys /dev/null --sitting 4294967295", 1, "sitting 4294967295 was the last one here");
+    fs::remove_dir_all(STATE).unwrap();
 }
 
 #[test]
@@ -48,9 +69,9 @@ fn keys_and_terminals() {
     refused("candidate --to 127.0.0.1:4000 --keys no-such-file", 1, "no-such-file: ");
     refused("invigilator --listen 127.0.0.1:0", 1, "standard input and output are no terminal");
     let file = format!("{}/bad-keys-{}", env!("CARGO_TARGET_TMPDIR"), std::process::id());
-    std::fs::write(&file, "A<Entr>").unwrap();
+    fs::write(&file, "A<Entr>").unwrap();
     refused(&format!("candidate --to 127.0.0.1:4000 --keys {file}"), 1, "there is no key <Entr>");
-    std::fs::remove_file(file).unwrap();
+    fs::remove_file(file).unwrap();
 }
 
 #[test]

@@ -1,32 +1,93 @@
-//! The two processes over UDP on the loopback, without a terminal: 100,000 keys from a file, over a line that the sender makes bad, with
-//! garbage and another run's reports from a third socket. The invigilator compares its mirror with the keys after every arrival.
+//! The two processes over UDP on the loopback, without a terminal, over a line that the sender makes bad. The invigilator compares its mirror
+//! with the keys after every arrival.
+mod folder;
+
+use folder::Folder;
+use futonrobin::Screen;
 use oorandom::Rand32;
+use std::fs;
 use std::io::{BufRead, BufReader, Read};
 use std::net::UdpSocket;
-use std::path::PathBuf;
-use std::process::{Child, Command, Stdio};
+use std::path::Path;
+use std::process::{Child, ChildStdout, Command, Stdio};
 use std::sync::atomic::{AtomicBool, Ordering};
 use std::thread;
-use std::time::{Duration, Instant};
-use terminal::datagram::{self, Datagram, Run};
+use std::time::{Duration, Instant, SystemTime, UNIX_EPOCH};
+use terminal::datagram::{self, Datagram};
 use terminal::keys::{self, Key, NAMED};
 
 const KEYS: usize = 100_000;
 const AT_MOST: Duration = Duration::from_secs(120);
+const FAULTS: [&str; 6] = ["--loss", "30", "--repeat", "30", "--reorder", "100"];
 
-fn screens(words: &[&str]) -> Child {
-    let mut command = Command::new(env!("CARGO_BIN_EXE_screens"));
-    command.args(words).stdin(Stdio::null()).stdout(Stdio::piped()).spawn().expect("the program starts")
+/// The folder has the file of keys, and is the state folder of the programs that a test starts.
+impl Folder {
+    fn with_keys(name: &str, keys: &str) -> Self {
+        let folder = Self::new(name);
+        fs::write(folder.0.join("keys"), keys).unwrap();
+        folder
+    }
+
+    /// The program with these words, and the keys.
+    fn screens(&self, words: &[&str]) -> Child {
+        self.screens_with(words, &self.0)
+    }
+
+    fn screens_with(&self, words: &[&str], state: &Path) -> Child {
+        let mut command = Command::new(env!("CARGO_BIN_EXE_screens"));
+        command.args(words).arg("--keys").arg(self.0.join("keys")).env("XDG_STATE_HOME", state);
+        command.stdin(Stdio::null()).stdout(Stdio::piped()).spawn().expect("the program starts")
+    }
+}
+
+/// An invigilator's program, and what it tells.
+struct Invigilator {
+    program: Child,
+    told: BufReader<ChildStdout>,
+    address: String,
+}
+
+impl Invigilator {
+    fn start(folder: &Folder) -> Self {
+        let mut program = folder.screens(&["invigilator", "--listen", "127.0.0.1:0"]);
+        let told = BufReader::new(program.stdout.take().unwrap());
+        let mut invigilator = Self { program, told, address: String::new() };
+        invigilator.address = format!("127.0.0.1:{}", number_after(&invigilator.line(), "127.0.0.1:"));
+        invigilator
+    }
+
+    fn line(&mut self) -> String {
+        let mut line = String::new();
+        self.told.read_line(&mut line).unwrap();
+        line
+    }
+
+    /// The sitting that it says it follows, and the port from which that comes.
+    fn follows(&mut self) -> (u64, u64) {
+        let mut line = self.line();
+        // How far the one before came may be told until then.
+        while line.contains("has shown") {
+            line = self.line();
+        }
+        (number_after(&line, "follows sitting"), number_after(&line, "from 127.0.0.1:"))
+    }
+
+    /// Whether all held, and the rest of what it tells.
+    fn end(mut self) -> (bool, String) {
+        let mut rest = String::new();
+        self.told.read_to_string(&mut rest).unwrap();
+        (self.program.wait().unwrap().success(), rest)
+    }
 }
 
 /// Two of three are characters, the others any named key.
-fn random_keys(seed: u64) -> Vec<Key> {
+fn random_keys(seed: u64, count: usize) -> String {
     let mut random = Rand32::new(seed);
-    let mut key = |_| match random.rand_range(0..3) {
+    let key = |_| match random.rand_range(0..3) {
         0 => NAMED[random.rand_range(0..NAMED.len() as u32) as usize].1,
         _ => Key::Char(random.rand_range(32..256) as u8),
     };
-    (0..KEYS).map(&mut key).collect()
+    keys::write(&(0..count).map(key).collect::<Vec<_>>())
 }
 
 fn number_after(text: &str, word: &str) -> u64 {
@@ -34,17 +95,23 @@ fn number_after(text: &str, word: &str) -> u64 {
     rest.trim_start().split(|c: char| !c.is_ascii_digit()).next().unwrap().parse().unwrap()
 }
 
-/// Garbage, and well-formed reports of another run, until told to stop; how many of each.
-fn disturb(port: u16, stop: &AtomicBool) -> (u64, u64) {
+fn new_seed() -> u64 {
+    let seed = SystemTime::now().duration_since(UNIX_EPOCH).unwrap().as_secs();
+    println!("seed {seed}");
+    seed
+}
+
+/// Garbage, and well-formed reports of a sitting of long ago, until told to stop; how many of each.
+fn disturb(address: &str, stop: &AtomicBool) -> (u64, u64) {
     let socket = UdpSocket::bind("127.0.0.1:0").unwrap();
-    let mut screen = futonrobin::Screen::new(80);
+    let mut screen = Screen::new(80, 1);
     screen.print_bytes(b"NOT THE CANDIDATE'S").unwrap();
-    let foreign = datagram::write(Run { number: 1, width: 80 }, Datagram::Report(screen.report_full().as_bytes()));
+    let older = datagram::write(Datagram::Report { width: 80, report: screen.report_full().as_bytes() });
     let mut sent = (0, 0);
     while !stop.load(Ordering::Relaxed) {
-        socket.send_to(&foreign[..foreign.len() - 1], ("127.0.0.1", port)).unwrap();
-        socket.send_to(b"garbage", ("127.0.0.1", port)).unwrap();
-        socket.send_to(&foreign, ("127.0.0.1", port)).unwrap();
+        for bytes in [&older[..older.len() - 1], b"garbage", &older] {
+            socket.send_to(bytes, address).unwrap();
+        }
         sent = (sent.0 + 2, sent.1 + 1);
         thread::sleep(Duration::from_millis(5));
     }
@@ -53,58 +120,73 @@ fn disturb(port: u16, stop: &AtomicBool) -> (u64, u64) {
 
 #[test]
 fn a_hundred_thousand_keys_over_a_bad_line() {
-    let seed = std::time::SystemTime::now().duration_since(std::time::UNIX_EPOCH).unwrap().as_secs();
-    println!("seed {seed}");
-    let file = PathBuf::from(env!("CARGO_TARGET_TMPDIR")).join(format!("keys-{}", std::process::id()));
-    std::fs::write(&file, keys::write(&random_keys(seed))).unwrap();
-    let file = file.to_str().unwrap();
-
-    let begun = Instant::now();
-    let mut invigilator = screens(&["invigilator", "--listen", "127.0.0.1:0", "--keys", file]);
-    let mut told = BufReader::new(invigilator.stdout.take().unwrap());
-    let mut line = || {
-        let mut line = String::new();
-        told.read_line(&mut line).unwrap();
-        line
-    };
-    let port = number_after(&line(), "127.0.0.1:") as u16;
-
-    let to = format!("127.0.0.1:{port}");
-    let faults = ["--loss", "30", "--repeat", "30", "--reorder", "100", "--seed", &seed.to_string()];
-    let candidate = screens(&[&["candidate", "--to", &to, "--keys", file], &faults[..]].concat());
-    // Nobody else may be the first that the invigilator hears.
-    assert!(line().contains("follows run"));
+    let (seed, begun) = (new_seed(), Instant::now());
+    let folder = Folder::with_keys("hundred-thousand", &random_keys(seed, KEYS));
+    let mut invigilator = Invigilator::start(&folder);
+    let (address, seeded) = (invigilator.address.clone(), seed.to_string());
+    let candidate = folder.screens(&[&["candidate", "--to", &address, "--seed", &seeded], &FAULTS[..]].concat());
+    // A sitting of long ago may be the first that a mirror shows, but never one after the candidate's.
+    let (sitting, _) = invigilator.follows();
     let stop = AtomicBool::new(false);
     let (candidate, disturbed) = thread::scope(|scope| {
-        let disturbing = scope.spawn(|| disturb(port, &stop));
+        let disturbing = scope.spawn(|| disturb(&address, &stop));
         let candidate = candidate.wait_with_output().unwrap();
         stop.store(true, Ordering::Relaxed);
         (candidate, disturbing.join().unwrap())
     });
-    let mut report = String::from_utf8(candidate.stdout).unwrap();
-    told.read_to_string(&mut report).unwrap();
-    let (held, time) = (invigilator.wait().unwrap().success(), begun.elapsed());
-    println!("{report}{:.1} s; {} pieces of garbage and {} foreign reports were sent", time.as_secs_f64(), disturbed.0, disturbed.1);
-    std::fs::remove_file(file).unwrap();
+    let (held, rest) = invigilator.end();
+    let (report, time) = (String::from_utf8(candidate.stdout).unwrap() + &rest, begun.elapsed());
+    println!("{report}{:.1} s; {} pieces of garbage and {} older reports were sent", time.as_secs_f64(), disturbed.0, disturbed.1);
 
     assert!(candidate.status.success() && held, "seed {seed}\n{report}");
-    assert_eq!(number_after(&report, "wrong arrivals"), 0);
+    assert_eq!((number_after(&report, "wrong arrivals"), number_after(&report, "candidate: sitting")), (0, sitting));
+    assert!(report.contains(&format!("candidate: sitting {sitting} is the first one known here")), "{report}");
     assert!(number_after(&report, "ended at call") >= KEYS as u64);
     // The line was as bad as it was meant to be, and the network lost next to nothing beyond it.
     let (sent, lost) = (number_after(&report, "calls,"), number_after(&report, "sent,"));
     assert!(lost * 3 > sent && lost < sent && number_after(&report, "arrived") * 100 >= sent * 99, "{report}");
-    assert!(number_after(&report, "garbage") > 0 && number_after(&report, "foreign") > 0, "{report}");
+    assert!(number_after(&report, "garbage") > 0 && number_after(&report, "older") > 0, "{report}");
+    assert!(report.contains("invigilator: kept sitting 1, call 1 of 1 heard of"), "it was never shown, but it can be looked at: {report}");
+    assert!(!rest.contains("follows sitting"), "{report}");
     assert!(time < AT_MOST, "{time:?}");
 }
 
 #[test]
-fn a_candidate_that_nobody_follows_says_so() {
-    let file = PathBuf::from(env!("CARGO_TARGET_TMPDIR")).join(format!("few-keys-{}", std::process::id()));
-    std::fs::write(&file, "BED 12").unwrap();
+fn a_candidate_killed_and_started_again_in_mid_run() {
+    let seed = new_seed();
+    let folder = Folder::with_keys("killed", &random_keys(seed, KEYS / 2));
+    let mut invigilator = Invigilator::start(&folder);
+    let (address, seeded) = (invigilator.address.clone(), seed.to_string());
+    let start = || folder.screens(&[&["candidate", "--to", &address, "--seed", &seeded], &FAULTS[..]].concat());
+    let mut first = start();
+    let (sitting, port) = invigilator.follows();
+    // In mid-run: some of its calls are shown, and many more are to come.
+    assert!(number_after(&invigilator.line(), "has shown") > 0);
+    first.kill().unwrap();
+    assert!(!first.wait().unwrap().success(), "it was killed before its end");
+    let second = start();
+    let (next, other_port) = invigilator.follows();
+    let second = second.wait_with_output().unwrap();
+    let (held, rest) = invigilator.end();
+    let report = String::from_utf8(second.stdout).unwrap() + &rest;
+    println!("{report}");
+
+    assert!(second.status.success() && held, "seed {seed}\n{report}");
+    assert_eq!((number_after(&report, "wrong arrivals"), number_after(&report, "candidate: sitting")), (0, next));
+    assert!(next > sitting && other_port != port, "sitting {sitting} from {port}, then {next} from {other_port}");
+    assert!(number_after(&report, "ended at call") >= (KEYS / 2) as u64);
+    // Its last screen was compared with the keys too.
+    assert!(number_after(&report, &format!("invigilator: kept sitting {sitting}, call")) > 0, "{report}");
+}
+
+#[test]
+fn a_candidate_that_nobody_follows_and_whose_sitting_is_not_kept_says_so() {
+    let folder = Folder::with_keys("unfollowed", "BED 12");
     let silent = UdpSocket::bind("127.0.0.1:0").unwrap();
-    let to = silent.local_addr().unwrap().to_string();
-    let done = screens(&["candidate", "--to", &to, "--keys", file.to_str().unwrap()]).wait_with_output().unwrap();
-    std::fs::remove_file(file).unwrap();
+    let words = ["candidate", "--to", &silent.local_addr().unwrap().to_string()];
+    let done = folder.screens_with(&words, &folder.0.join("keys")).wait_with_output().unwrap();
+    let told = String::from_utf8(done.stdout).unwrap();
     assert_eq!(done.status.code(), Some(1));
-    assert!(String::from_utf8(done.stdout).unwrap().contains("HAS NOT TOLD THAT IT SHOWS"));
+    assert!(told.contains("HAS NOT TOLD THAT IT SHOWS") && told.contains(" is NOT KEPT: the next one here may be no larger ("), "{told}");
+    assert!(told.contains("may be no larger than the last one, which is not known ("), "{told}");
 }

@@ -41,7 +41,8 @@ fn fixed_parts() -> Vec<Part> {
         part("every class of arguments", exhaustive::every_argument),
         part("what panics, in the drop-in screen too", drop_in::panics),
         part("refusals: lengths", refusals::every_length),
-        part("refusals: serials", refusals::serials),
+        part("refusals: serials and sittings", refusals::serials),
+        part("refusals: version 1", refusals::version_1),
         part("refusals: order", refusals::order),
         part("refusals: every byte, every other value", refusals::every_byte),
     ]

@@ -126,6 +126,59 @@ fn the_line_cut_and_joined() {
 }
 
 #[test]
+fn a_restart_is_followed() {
+    let pane = start("restart", GOOD_LINE);
+    pane.wait("the first sitting", |shown| shown.has("INVIGILATOR  sitting 1") && shown.has("1 sitting so far"));
+    pane.write("BEFORE");
+    wait_for_both(&pane, 0, "BEFORE");
+    pane.press("C-n");
+    pane.wait("the next sitting", |shown| shown.has("INVIGILATOR  sitting 2") && shown.has("2 sittings so far"));
+    wait_for_both(&pane, 0, "");
+    pane.write("AFTER");
+    wait_for_both(&pane, 0, "AFTER");
+    // The screen before can be looked at, and the mirror goes on meanwhile.
+    pane.press("PPage");
+    pane.wait("the screen before", |shown| {
+        invigilator(shown)[0] == "BEFORE"
+            && ["NOT CURRENT: sitting 1", "call 6 of 6", "PageDown leads back"].iter().all(|text| shown.has(text))
+    });
+    pane.write(" ALL");
+    pane.wait("the mirror goes on", |shown| {
+        invigilator(shown)[0] == "BEFORE" && shown.has("now LEVEL") && shown.has("sitting 2  m 9  n 9")
+    });
+    pane.press("PPage");
+    pane.press("NPage");
+    wait_for_both(&pane, 0, "AFTER ALL");
+}
+
+#[test]
+fn a_sitting_whose_first_full_report_is_lost() {
+    let pane = start("begun", GOOD_LINE);
+    // Where the keys take a second, a full report passes too; then the scene is played again.
+    let begun = (1..20).step_by(2).find_map(|sitting| begun(&pane, sitting));
+    let (sitting, shown) = begun.expect("one of ten times the keys take less than a second");
+    assert!(shown.has(&format!("BEGUN: sitting {sitting}")) && shown.has("no full report yet"));
+    assert!(invigilator(&shown)[0] == "BEFORE" && candidate(&shown)[0] == "A");
+    pane.press("C-x");
+    wait_for_both(&pane, 0, "A");
+}
+
+/// In this sitting the line is cut while the candidate restarts, joined for one step, and cut again: the sitting after it and what is then shown, or
+/// nothing if the mirror has followed; then one further sitting has begun.
+fn begun(pane: &Pane, sitting: u32) -> Option<(u32, Shown)> {
+    pane.write("BEFORE");
+    wait_for_both(pane, 0, "BEFORE");
+    pane.press("C-x C-n C-x A C-x");
+    let shown = pane.wait("all keys taken", |shown| shown.has("line: CUT") && shown.has(&format!("sitting {}  serial 1", sitting + 1)));
+    if shown.has("BEGUN") {
+        return Some((sitting + 1, shown));
+    }
+    pane.press("C-x C-n");
+    wait_for_both(pane, 0, "");
+    None
+}
+
+#[test]
 fn faults_that_are_changed_while_it_runs() {
     let pane = start("faults", GOOD_LINE);
     pane.press("C-l C-l C-r C-r C-o C-o C-o C-o");
@@ -149,7 +202,7 @@ fn resized() {
     wait_for_both(&pane, 0, "STAYS");
     // While it is too small nothing is typed; leaving works.
     pane.resize(100, 20);
-    pane.wait_for("161 and 30 are needed");
+    pane.wait_for("161 and 32 are needed");
     pane.write("NOT TAKEN");
     pane.press("C-w C-q");
     pane.wait_for_end();

@@ -1,4 +1,6 @@
 //! The programs in a real terminal, as a person uses them. Every step waits for what the screen shows.
+#[path = "../folder/mod.rs"]
+mod folder;
 mod halves;
 mod pane;
 mod two_terminals;

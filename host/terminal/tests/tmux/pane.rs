@@ -1,23 +1,24 @@
 //! A terminal of tmux with a program in it: keys go in, what is shown is read, and one waits for what should be shown.
-use std::fs;
-use std::path::PathBuf;
+use crate::folder::Folder;
 use std::process::Command;
 use std::thread::sleep;
 use std::time::{Duration, Instant};
+
+/// Where the sittings of the programs are kept.
+const STATE: &str = concat!(env!("CARGO_TARGET_TMPDIR"), "/state-of-tmux");
 
 /// Longer than anything here takes; a test that waits so long has failed.
 pub const DEADLINE: Duration = Duration::from_secs(60);
 
 pub struct Pane {
-    /// Where the server has its socket; it goes when the test ends.
-    folder: PathBuf,
+    /// Where the server has its socket.
+    folder: Folder,
 }
 
 impl Pane {
     /// Starts a command in a terminal of this size, with a tmux server of its own.
     pub fn start(name: &str, cols: usize, rows: usize, command: &str) -> Self {
-        let pane = Self { folder: std::env::temp_dir().join(format!("futonrobin-{}-{name}", std::process::id())) };
-        fs::create_dir_all(&pane.folder).expect("a folder for the socket");
+        let pane = Self { folder: Folder::new(name) };
         let (cols, rows) = (cols.to_string(), rows.to_string());
         pane.tmux(&["-f", "/dev/null", "new-session", "-d", "-x", &cols, "-y", &rows, command]);
         pane
@@ -37,7 +38,7 @@ impl Pane {
 
     fn server(&self) -> Command {
         let mut tmux = Command::new("tmux");
-        tmux.arg("-u").arg("-S").arg(self.folder.join("socket"));
+        tmux.arg("-u").arg("-S").arg(self.folder.0.join("socket")).env("XDG_STATE_HOME", STATE);
         tmux
     }
 
@@ -102,7 +103,6 @@ impl Drop for Pane {
     fn drop(&mut self) {
         // The server has ended by itself if its program has.
         let _ = self.server().arg("kill-server").output();
-        let _ = fs::remove_dir_all(&self.folder);
     }
 }
 

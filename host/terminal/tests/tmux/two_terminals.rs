@@ -1,18 +1,23 @@
 //! The candidate's and the invigilator's program in two terminals, over UDP.
+use crate::folder::Folder;
 use crate::pane::{Pane, Shown};
 use std::net::UdpSocket;
 
+/// The smallest terminal.
+const COLS: usize = 80;
+const ROWS: usize = 29;
+
 /// An invigilator on any free port, and that port, which it shows.
 fn invigilator(name: &str) -> (Pane, u16) {
-    let pane = Pane::screens(name, 80, 30, "invigilator --listen 127.0.0.1:0");
-    let port = |line: &String| line.split_once("WAITING for a candidate at 127.0.0.1:").and_then(|(_, port)| port.trim().parse().ok());
+    let pane = Pane::screens(name, COLS, ROWS, "invigilator --listen 127.0.0.1:0");
+    let port = |line: &String| line.split_once("listening at 127.0.0.1:").and_then(|(_, port)| port.trim().parse().ok());
     let shown = pane.wait("the address", |shown| shown.lines.iter().any(|line| port(line).is_some()));
     let port = shown.lines.iter().find_map(port).unwrap();
     (pane, port)
 }
 
-fn candidate(name: &str, port: u16) -> Pane {
-    let pane = Pane::screens(name, 80, 30, &format!("candidate --to 127.0.0.1:{port} --loss 20 --repeat 20 --reorder 50"));
+fn candidate(name: &str, port: u16, more: &str) -> Pane {
+    let pane = Pane::screens(name, COLS, ROWS, &format!("candidate --to 127.0.0.1:{port} --loss 20 --repeat 20 --reorder 50 {more}"));
     pane.wait_for("1LIST");
     pane
 }
@@ -24,11 +29,12 @@ fn first_row(shown: &Shown) -> &str {
 #[test]
 fn over_udp() {
     let (invigilator, port) = invigilator("watching");
-    let first = candidate("first", port);
+    let first = candidate("first", port, "");
     first.write("40 WARD 9, BED 3");
     invigilator.wait("what is typed, and LEVEL", |shown| first_row(shown) == "40 WARD 9, BED 3" && shown.has("LEVEL"));
     first.wait_for("invigilator shows 16");
     invigilator.wait_for_cursor(0, 16);
+    invigilator.wait_for("1 sitting so far");
 
     let garbage = UdpSocket::bind("127.0.0.1:0").unwrap();
     for bytes in [&b""[..], b"no report", &[0; 5000]] {
@@ -38,14 +44,58 @@ fn over_udp() {
 
     drop(first);
     invigilator.wait_for("SILENT for");
-    let second = candidate("second", port);
-    second.write("ANOTHER RUN");
-    let shown = invigilator.wait_for("RESTARTED");
-    assert_eq!(first_row(&shown), "40 WARD 9, BED 3", "the old run's mirror stays as it was");
-    assert!(!shown.has("LEVEL"));
-    invigilator.press("C-n");
-    invigilator.wait("the new run, and LEVEL", |shown| first_row(shown) == "ANOTHER RUN" && shown.has("LEVEL"));
+    let second = candidate("second", port, "");
+    second.write("AFTER A RESTART");
+    invigilator.wait("the new sitting, and LEVEL", |shown| {
+        first_row(shown) == "AFTER A RESTART" && shown.has("LEVEL") && shown.has("2 sittings so far")
+    });
+    second.wait_for("invigilator shows 15");
+
+    invigilator.press("PPage");
+    let past = invigilator.wait("the earlier screen", |shown| first_row(shown) == "40 WARD 9, BED 3" && shown.has("NOT CURRENT: sitting"));
+    assert!(past.has("call 16 of 16") && past.has("PageDown leads back") && past.has("now "));
+    second.write("!");
+    invigilator.wait("the mirror follows meanwhile", |shown| {
+        first_row(shown) == "40 WARD 9, BED 3" && shown.has("now LEVEL") && shown.has("m 16  n 16")
+    });
+    invigilator.press("NPage");
+    invigilator.wait("the current screen", |shown| first_row(shown) == "AFTER A RESTART!" && !shown.has("NOT CURRENT"));
     second.press("C-q");
+}
+
+#[test]
+fn a_smaller_sitting_is_told_at_both_ends_and_never_shown() {
+    let (invigilator, port) = invigilator("followed");
+    let newer = candidate("newer", port, "");
+    newer.write("AFTER A RESTART!");
+    invigilator.wait("what is typed", |shown| first_row(shown) == "AFTER A RESTART!");
+    let older = candidate("older", port, "--sitting 5");
+    older.wait("the notice", |shown| shown.has("NOT SHOWN where") && shown.has("if used before, both are taken for one"));
+    older.write("UNSEEN");
+    older.wait_for("NOT SHOWN: the invigilator follows sitting");
+    let shown = invigilator.wait("the older one, and LEVEL", |shown| shown.has("older sitting 5 heard") && shown.has("LEVEL"));
+    assert_eq!(first_row(&shown), "AFTER A RESTART!");
+}
+
+#[test]
+fn what_there_is_to_know_about_a_sitting() {
+    let elsewhere = |name: &str, rows: usize, state: &str| {
+        let program = format!("env XDG_STATE_HOME={state} {} candidate --to 127.0.0.1:9", env!("CARGO_BIN_EXE_screens"));
+        Pane::start(name, COLS, rows, &program)
+    };
+    // No folder can be made under a file: two notices, and no room but with the row of help.
+    let unkept = elsewhere("unkept", ROWS, "/dev/null");
+    unkept.wait("both notices", |shown| shown.has("may be no larger than the last one") && shown.has("is NOT KEPT: the next one here"));
+    unkept.write("A");
+    unkept.wait("help, and the first", |shown| shown.has("Ctrl-Q leaves") && shown.has("may be no larger than the last one"));
+    // The path is longer than a row, and no letter of it is lost.
+    let folder = Folder::new(&"long-".repeat(20));
+    let state = folder.0.to_str().unwrap();
+    let first = elsewhere("first", ROWS + 9, state);
+    let shown = first.wait_for("is the first one known here: one used before may be larger");
+    let after = shown.lines.iter().skip_while(|line| !line.contains("is the first one known here")).skip(1);
+    let why: String = after.map(|line| line.trim()).collect();
+    assert_eq!(why.replace(' ', ""), format!("therewasno{state}/futonrobin/sitting"));
 }
 
 #[test]

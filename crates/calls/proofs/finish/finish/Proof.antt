@@ -7,11 +7,8 @@ use Rattle.calls.proofs.finish.finish.Tie as tie
 changed-rows-requires : tie.Need-changed-rows-requires
 changed-rows-requires c κs = search needs
 
-read-serial-requires : tie.Need-read-serial-requires
-read-serial-requires c κs = search needs
-
-add-next : tie.Need-add-next
-add-next c = search needs
+next-pair-requires : tie.Need-next-pair-requires
+next-pair-requires c κs = search needs
 
 write-front-requires : tie.Need-write-front-requires
 write-front-requires c κs = search needs
@@ -25,10 +22,4 @@ returns c = search (needs, finished)
 pub finish-spec : {M : Type 1} → statement M
 finish-spec =
     tie.close
-    (tie.spec
-    changed-rows-requires
-    read-serial-requires
-    add-next
-    write-front-requires
-    same-length
-    returns)
+    (tie.spec changed-rows-requires next-pair-requires write-front-requires same-length returns)

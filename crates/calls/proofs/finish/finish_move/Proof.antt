@@ -4,11 +4,8 @@ use Rattle.calls.proofs.FinishLaws.{finished-move}
 use Rattle.calls.proofs.finish.finish_move.Statement.{statement}
 use Rattle.calls.proofs.finish.finish_move.Tie as tie
 
-read-serial-requires : tie.Need-read-serial-requires
-read-serial-requires c κs = search needs
-
-add-next : tie.Need-add-next
-add-next c = search needs
+next-pair-requires : tie.Need-next-pair-requires
+next-pair-requires c κs = search needs
 
 write-front-requires : tie.Need-write-front-requires
 write-front-requires c κs = search needs
@@ -20,6 +17,4 @@ returns : tie.Need-returns
 returns c = search (needs, finished-move)
 
 pub finish-move-spec : {M : Type 1} → statement M
-finish-move-spec =
-    tie.close
-    (tie.spec read-serial-requires add-next write-front-requires same-length returns)
+finish-move-spec = tie.close (tie.spec next-pair-requires write-front-requires same-length returns)

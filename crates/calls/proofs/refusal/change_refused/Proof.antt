@@ -14,8 +14,8 @@ returns c = search (needs, refused-record)
 returns-2 : tie.Need-returns-2
 returns-2 c = search (needs, refused-own)
 
-read-serial-requires : tie.Need-read-serial-requires
-read-serial-requires c κs = search (needs, size-known)
+read-pair-requires : tie.Need-read-pair-requires
+read-pair-requires c κs = search (needs, size-known)
 
 add-result : tie.Need-add-result
 add-result c = search needs
@@ -33,7 +33,7 @@ change-refused-spec =
     record-refused-requires
     returns
     returns-2
-    read-serial-requires
+    read-pair-requires
     add-result
     returns-3
     returns-4)

@@ -6,11 +6,11 @@ use Rattle.grid.proofs.HeadLaws.{fronted}
 use Rattle.grid.proofs.head.write_front.Statement.{statement}
 use Rattle.grid.proofs.head.write_front.Tie as tie
 
+put-pair-requires : tie.Need-put-pair-requires
+put-pair-requires c κs = search needs
+
 put4-requires : tie.Need-put4-requires
 put4-requires c κs = search needs
-
-put4-requires-2 : tie.Need-put4-requires-2
-put4-requires-2 c κs = search needs
 
 put-head-requires : tie.Need-put-head-requires
 put-head-requires c κs = search needs
@@ -40,8 +40,8 @@ pub write-front-spec : {M : Type 1} → statement M
 write-front-spec =
     tie.close
     (tie.spec
+    put-pair-requires
     put4-requires
-    put4-requires-2
     put-head-requires
     cast-rec
     slice-write-rec

@@ -4,14 +4,14 @@ use Rattle.mirror.proofs.ArriveLeft.{apply-done}
 use Rattle.mirror.proofs.arrive.apply.Statement.{statement}
 use Rattle.mirror.proofs.arrive.apply.Tie as tie
 
-four-at-requires : tie.Need-four-at-requires
-four-at-requires c κs = search needs
+pair-at-requires : tie.Need-pair-at-requires
+pair-at-requires c κs = search needs
 
-four-at-requires-2 : tie.Need-four-at-requires-2
-four-at-requires-2 c κs = search needs
+pair-at-requires-2 : tie.Need-pair-at-requires-2
+pair-at-requires-2 c κs = search needs
 
-later-requires : tie.Need-later-requires
-later-requires c κs = search needs
+latest-requires : tie.Need-latest-requires
+latest-requires c κs = search needs
 
 sub-show : tie.Need-sub-show
 sub-show c = search needs
@@ -41,9 +41,9 @@ pub apply-spec : {M : Type 1} → statement M
 apply-spec =
     tie.close
     (tie.spec
-    four-at-requires
-    four-at-requires-2
-    later-requires
+    pair-at-requires
+    pair-at-requires-2
+    latest-requires
     sub-show
     part-show-start
     part-show-end

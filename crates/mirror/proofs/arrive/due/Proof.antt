@@ -7,8 +7,8 @@ use Rattle.mirror.proofs.arrive.due.Tie as tie
 read-front-requires : tie.Need-read-front-requires
 read-front-requires c κs = search needs
 
-shown-serial-requires : tie.Need-shown-serial-requires
-shown-serial-requires c κs = search needs
+shown-pair-requires : tie.Need-shown-pair-requires
+shown-pair-requires c κs = search needs
 
 due-at-requires : tie.Need-due-at-requires
 due-at-requires c κs = search needs
@@ -17,4 +17,4 @@ returns : tie.Need-returns
 returns c = search (needs, due-read)
 
 pub due-spec : {M : Type 1} → statement M
-due-spec = tie.close (tie.spec read-front-requires shown-serial-requires due-at-requires returns)
+due-spec = tie.close (tie.spec read-front-requires shown-pair-requires due-at-requires returns)

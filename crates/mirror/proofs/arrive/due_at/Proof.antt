@@ -13,6 +13,9 @@ follows-requires c κs = search needs
 enum-told-2 : tie.Need-enum-told-2
 enum-told-2 c = search needs
 
+later-requires : tie.Need-later-requires
+later-requires c κs = search needs
+
 returns : tie.Need-returns
 returns c = search (needs, step-due)
 
@@ -20,4 +23,5 @@ returns-2 : tie.Need-returns-2
 returns-2 c = search (needs, full-due)
 
 pub due-at-spec : {M : Type 1} → statement M
-due-at-spec = tie.close (tie.spec enum-told follows-requires enum-told-2 returns returns-2)
+due-at-spec =
+    tie.close (tie.spec enum-told follows-requires enum-told-2 later-requires returns returns-2)

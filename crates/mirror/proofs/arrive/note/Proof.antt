@@ -1,21 +1,21 @@
 -- `mirror::arrive::note` meets its contract. Assumes nothing.
 use borrow.Author.Needs.{needs}
-use denote.Ref.{now}
 use Rattle.mirror.proofs.ArriveLeft.{all-bytes, note-done}
+use denote.Ref.{now}
 use Rattle.mirror.proofs.arrive.note.Statement.{statement}
 use Rattle.mirror.proofs.arrive.note.Tie as tie
 
-shown-serial-requires : tie.Need-shown-serial-requires
-shown-serial-requires c κs = search needs
+pair-at-requires : tie.Need-pair-at-requires
+pair-at-requires c κs = search needs
 
-four-at-requires : tie.Need-four-at-requires
-four-at-requires c κs = search needs
+shown-pair-requires : tie.Need-shown-pair-requires
+shown-pair-requires c κs = search needs
 
-four-at-requires-2 : tie.Need-four-at-requires-2
-four-at-requires-2 c κs = search needs
+pair-at-requires-2 : tie.Need-pair-at-requires-2
+pair-at-requires-2 c κs = search needs
 
-later-requires : tie.Need-later-requires
-later-requires c κs = search needs
+latest-requires : tie.Need-latest-requires
+latest-requires c κs = search needs
 
 write-front-requires : tie.Need-write-front-requires
 write-front-requires c κs = search needs
@@ -35,10 +35,10 @@ pub note-spec : {M : Type 1} → statement M
 note-spec =
     tie.close
     (tie.spec
-    shown-serial-requires
-    four-at-requires
-    four-at-requires-2
-    later-requires
+    pair-at-requires
+    shown-pair-requires
+    pair-at-requires-2
+    latest-requires
     write-front-requires
     level-requires
     same-length

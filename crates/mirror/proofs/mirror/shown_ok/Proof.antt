@@ -4,8 +4,8 @@ use Rattle.mirror.proofs.MirrorLaws.{record-wrong, touched-wrong, shown
 use Rattle.mirror.proofs.mirror.shown_ok.Statement.{statement}
 use Rattle.mirror.proofs.mirror.shown_ok.Tie as tie
 
-four-at-requires : tie.Need-four-at-requires
-four-at-requires c κs = search needs
+pair-at-requires : tie.Need-pair-at-requires
+pair-at-requires c κs = search needs
 
 sub-rec : tie.Need-sub-rec
 sub-rec c = search needs
@@ -28,8 +28,11 @@ read-touched-requires c κs = search needs
 returns-2 : tie.Need-returns-2
 returns-2 c = search (needs, touched-wrong)
 
-read-serial-requires : tie.Need-read-serial-requires
-read-serial-requires c κs = search needs
+read-pair-requires : tie.Need-read-pair-requires
+read-pair-requires c κs = search needs
+
+later-requires : tie.Need-later-requires
+later-requires c κs = search needs
 
 returns-3 : tie.Need-returns-3
 returns-3 c = search (needs, shown-tested)
@@ -38,7 +41,7 @@ pub shown-ok-spec : {M : Type 1} → statement M
 shown-ok-spec =
     tie.close
     (tie.spec
-    four-at-requires
+    pair-at-requires
     sub-rec
     part-rec-start
     part-rec-end
@@ -46,5 +49,6 @@ shown-ok-spec =
     returns
     read-touched-requires
     returns-2
-    read-serial-requires
+    read-pair-requires
+    later-requires
     returns-3)

@@ -6,8 +6,8 @@ use Rattle.mirror.proofs.MirrorLaws.{mirror-fronted}
 use Rattle.mirror.proofs.mirror.write_front.Statement.{statement}
 use Rattle.mirror.proofs.mirror.write_front.Tie as tie
 
-put4-requires : tie.Need-put4-requires
-put4-requires c κs = search needs
+put-pair-requires : tie.Need-put-pair-requires
+put-pair-requires c κs = search needs
 
 cast-mir : tie.Need-cast-mir
 cast-mir c = search needs
@@ -19,7 +19,7 @@ cast-mir-2 : tie.Need-cast-mir-2
 cast-mir-2 c = search needs
 
 slice-write-mir-2 : tie.Need-slice-write-mir-2
-slice-write-mir-2 c = search needs
+slice-write-mir-2 c = simp length-set (omega arith)
 
 slice-write-mir-3 : tie.Need-slice-write-mir-3
 slice-write-mir-3 c = simp length-set (omega arith)
@@ -34,7 +34,7 @@ pub write-front-spec : {M : Type 1} → statement M
 write-front-spec =
     tie.close
     (tie.spec
-    put4-requires
+    put-pair-requires
     cast-mir
     slice-write-mir
     cast-mir-2

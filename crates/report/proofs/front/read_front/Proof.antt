@@ -10,11 +10,11 @@ shared-slice-read-kind-of c = search needs
 kind-of-requires : tie.Need-kind-of-requires
 kind-of-requires c κs = search needs
 
+pair-at-requires : tie.Need-pair-at-requires
+pair-at-requires c κs = search needs
+
 four-at-requires : tie.Need-four-at-requires
 four-at-requires c κs = search needs
-
-four-at-requires-2 : tie.Need-four-at-requires-2
-four-at-requires-2 c κs = search needs
 
 head-at-requires : tie.Need-head-at-requires
 head-at-requires c κs = search needs
@@ -28,7 +28,7 @@ read-front-spec =
     (tie.spec
     shared-slice-read-kind-of
     kind-of-requires
+    pair-at-requires
     four-at-requires
-    four-at-requires-2
     head-at-requires
     returns)

@@ -9,11 +9,11 @@ use Rattle.report.proofs.front.write_front.Tie as tie
 report-length-requires : tie.Need-report-length-requires
 report-length-requires c κs = search needs
 
+put-pair-requires : tie.Need-put-pair-requires
+put-pair-requires c κs = search needs
+
 put4-requires : tie.Need-put4-requires
 put4-requires c κs = search needs
-
-put4-requires-2 : tie.Need-put4-requires-2
-put4-requires-2 c κs = search needs
 
 put-head-requires : tie.Need-put-head-requires
 put-head-requires c κs = search needs
@@ -50,8 +50,8 @@ write-front-spec =
     tie.close
     (tie.spec
     report-length-requires
+    put-pair-requires
     put4-requires
-    put4-requires-2
     put-head-requires
     cast-out
     slice-write-out
