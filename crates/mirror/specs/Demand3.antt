@@ -66,7 +66,7 @@ unfoldable pub withNumber : Sitting → List Sitting → ℕ → Sitting
 withNumber s [] number = s
 withNumber s (t ∷ more) number = if eqb (t .number) number then t else withNumber s more number
 
--- what is given: the sittings of a paper, one or more, no number used twice and in no other order; and a mirror's buffer with anything in it
+-- what is given: the sittings of a paper, one or more, no number used twice and no other order among the numbers; and a mirror's buffer with anything in it
 pub record Paper : Type 0 where
   pub first : Sitting
   pub others : List Sitting
