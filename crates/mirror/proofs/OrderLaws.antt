@@ -2,7 +2,7 @@
 -- Assumes nothing.
 use Prim.Native.Nat.{_+_, _-_, _≤_, _<_}
 use mathlib.Core.Path.{_≡_, refl, sym, _∙_}
-use mathlib.Core.Bool.{Bool, true, false}
+use mathlib.Core.Bool.{Bool, true, false, or-false}
 use mathlib.Core.Bool
 use mathlib.Core.Logic.{_≢_, inl, inr}
 use native.Mathlib.Omega.{arith}
@@ -14,7 +14,7 @@ use Rattle.grid.specs.declared.pair.Pair.{Pair}
 use Rattle.mirror.specs.Order.{samePair, later, latest}
 use Rattle.mirror.specs.Refusals.{AtMost}
 use Rattle.mirror.specs.Count.{isLater}
-use Rattle.mirror.proofs.OneOrder.{or-false, later-is}
+use Rattle.mirror.proofs.OneOrder.{later-is}
 
 -- ---- `same_pair`
 
@@ -42,7 +42,7 @@ later-serial p q e =
 
 pub later-sitting : (p q : Pair) → p .sitting ≢ q .sitting → ltb (q .sitting) (p .sitting) ≡ later p q
 unfolding isLater
-later-sitting p q ne = or-false _ ∙ sym (rw (ne-eqb (p .sitting) (q .sitting) ne) refl) ∙ sym (later-is p q)
+later-sitting p q ne = sym (or-false _) ∙ sym (rw (ne-eqb (p .sitting) (q .sitting) ne) refl) ∙ sym (later-is p q)
 
 pub latest-second : (p q : Pair) (t : Bool) → t ≡ later q p → t ≡ true → q ≡ latest p q
 unfolding latest
