@@ -3,7 +3,8 @@
 use std::time::Instant;
 use terminal::canvas::{differing, Canvas, Size};
 use terminal::halves::{Halves, FAULTS};
-use terminal::played::recorded;
+use terminal::played::{recorded, KEY};
+use terminal::terminal::Program;
 
 /// One that leaves the mirror behind at the end.
 const SEED: u64 = 15;
@@ -19,18 +20,24 @@ const COLOURS: [&str; 16] = [
 ];
 
 fn main() {
-    let now = Instant::now();
+    let mut now = Instant::now();
     let mut halves = Halves::new(40, FAULTS, SEED, now);
-    for datagram in halves.full(now) {
-        halves.follower.receive(&datagram, now);
-    }
+    let first = halves.full();
+    arrive(&mut halves, first);
     for key in recorded() {
-        let pressed = halves.press(key, now);
-        for datagram in pressed.into_iter().chain(halves.pass(now)) {
-            halves.follower.receive(&datagram, now);
-        }
+        now += KEY;
+        let pressed = halves.press(key);
+        arrive(&mut halves, pressed);
+        let passed = halves.pass(now);
+        arrive(&mut halves, passed);
     }
-    print!("{}", svg(&halves.canvas_at(SIZE, now)));
+    print!("{}", svg(&halves.canvas(SIZE)));
+}
+
+fn arrive(halves: &mut Halves, datagrams: Vec<Vec<u8>>) {
+    for datagram in datagrams {
+        halves.hear(&datagram);
+    }
 }
 
 fn svg(canvas: &Canvas) -> String {

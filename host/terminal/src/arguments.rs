@@ -1,12 +1,17 @@
 //! The words after `./run`.
-use crate::line::Faults;
+use crate::bad_line::Faults;
 use std::net::{SocketAddr, ToSocketAddrs};
+use std::path::PathBuf;
 
 pub const HELP: &str = "\
 ./run                                 the candidate's screen and the invigilator's mirror in one terminal
-./run candidate --to HOST:PORT        the candidate's screen; its reports go to that address
-./run invigilator --listen HOST:PORT  the mirror of the candidate whose reports come there; port 0 is any free one
+./run candidate --to HOST:PORT --key FILE
+                                      the candidate's screen; its reports go to that address
+./run invigilator --listen HOST:PORT --key FILE
+                                      the mirror of the candidate whose reports come there; port 0 is any free one
+./run key FILE                        makes a key in a new file; both ends need the same one, and nobody else may have it
 
+  --key FILE                          for candidate and invigilator: the key under which all that they send is sealed
   --width 40|80                       columns of the new screen (not for the invigilator)
   --loss N  --repeat N  --reorder N   how many datagrams in a hundred the line loses, repeats, reorders (likewise)
                                       those that are not named are then 0
@@ -15,7 +20,7 @@ pub const HELP: &str = "\
                                       seconds of the clock, but at least one more than the last, which is kept in the file
                                       futonrobin/sitting of $XDG_STATE_HOME or ~/.local/state
   --keys FILE                         for candidate and invigilator, without a terminal: the candidate presses these keys,
-                                      the invigilator compares its mirror with them after every arrival
+                                      the invigilator compares its mirror with them after every report
   --help                              these lines
 
 Without a terminal on standard input ./run plays recorded keys over a bad line, prints both screens and the verdict.
@@ -28,9 +33,20 @@ pub enum Place {
     Listen(SocketAddr),
 }
 
+/// What the words ask for.
+#[derive(PartialEq, Eq, Debug)]
+pub enum Asked {
+    Help,
+    /// A key in this new file.
+    Key(PathBuf),
+    Run(Arguments),
+}
+
 #[derive(PartialEq, Eq, Debug)]
 pub struct Arguments {
     pub place: Place,
+    /// The file of the shared key; over UDP there is one.
+    pub key: Option<PathBuf>,
     pub width: Option<u32>,
     pub faults: Option<Faults>,
     pub seed: Option<u64>,
@@ -38,30 +54,29 @@ pub struct Arguments {
     pub keys: Option<String>,
 }
 
-/// What the words ask for, nothing if that is help, or a sentence about the first that cannot be taken.
-pub fn read(words: impl IntoIterator<Item = String>) -> Result<Option<Arguments>, String> {
+/// What the words ask for, or a sentence about the first that cannot be taken.
+pub fn read(words: impl IntoIterator<Item = String>) -> Result<Asked, String> {
     let mut words = words.into_iter().peekable();
     let program = words.next_if(|word| !word.starts_with('-'));
-    let mut arguments = Arguments { place: Place::Both, width: None, faults: None, seed: None, sitting: None, keys: None };
+    if program.as_deref() == Some("key") {
+        return key_to_make(words);
+    }
+    let mut arguments = Arguments { place: Place::Both, key: None, width: None, faults: None, seed: None, sitting: None, keys: None };
     let mut address = None;
     while let Some(word) = words.next() {
         let mut value = || words.next().ok_or_else(|| format!("{word} needs a value after it; ./run --help lists the words"));
         match (word.as_str(), program.as_deref()) {
-            ("--help", _) => return Ok(None),
+            ("--help", _) => return Ok(Asked::Help),
             ("--to", Some("candidate")) => address = Some(Place::To(address_of(&value()?, 1)?)),
             ("--listen", Some("invigilator")) => address = Some(Place::Listen(address_of(&value()?, 0)?)),
+            ("--key", Some("candidate" | "invigilator")) => arguments.key = Some(value()?.into()),
             ("--keys", Some("candidate" | "invigilator")) => arguments.keys = Some(value()?),
             ("--width", None | Some("candidate")) => arguments.width = Some(width_of(&value()?)?),
             ("--seed", None | Some("candidate")) => arguments.seed = Some(number_of(&word, &value()?, u64::MAX)?),
             ("--sitting", Some("candidate")) => arguments.sitting = Some(number_of(&word, &value()?, u32::MAX.into())? as u32),
             ("--loss" | "--repeat" | "--reorder", None | Some("candidate")) => {
                 let percent = number_of(&word, &value()?, 100)? as u32;
-                let faults = arguments.faults.get_or_insert_with(Faults::default);
-                match word.as_str() {
-                    "--loss" => faults.loss = percent,
-                    "--repeat" => faults.repeat = percent,
-                    _ => faults.reorder = percent,
-                }
+                set_fault(arguments.faults.get_or_insert_default(), &word, percent);
             }
             _ => return Err(format!("'{word}' is not understood here; ./run --help lists the words")),
         }
@@ -69,11 +84,34 @@ pub fn read(words: impl IntoIterator<Item = String>) -> Result<Option<Arguments>
     arguments.place = match (program.as_deref(), address) {
         (None, _) => Place::Both,
         (Some("candidate" | "invigilator"), Some(place)) => place,
-        (Some("candidate"), None) => return Err("an address to send to is missing: ./run candidate --to HOST:PORT".into()),
-        (Some("invigilator"), None) => return Err("an address to listen on is missing: ./run invigilator --listen HOST:PORT".into()),
+        (Some("candidate"), None) => return Err("an address to send to is missing: ./run candidate --to HOST:PORT --key FILE".into()),
+        (Some("invigilator"), None) => {
+            return Err("an address to listen on is missing: ./run invigilator --listen HOST:PORT --key FILE".into())
+        }
         (Some(word), _) => return Err(format!("there is no program '{word}'; ./run --help lists the words")),
     };
-    Ok(Some(arguments))
+    if arguments.place != Place::Both && arguments.key.is_none() {
+        return Err("a key is missing: ./run key FILE makes one, the other end needs a copy of that file, and --key FILE names it".into());
+    }
+    Ok(Asked::Run(arguments))
+}
+
+fn set_fault(faults: &mut Faults, word: &str, percent: u32) {
+    match word {
+        "--loss" => faults.loss = percent,
+        "--repeat" => faults.repeat = percent,
+        _ => faults.reorder = percent,
+    }
+}
+
+/// The one word after `key`.
+fn key_to_make(mut words: impl Iterator<Item = String>) -> Result<Asked, String> {
+    match (words.next(), words.next()) {
+        (Some(word), _) if word == "--help" => Ok(Asked::Help),
+        (Some(file), None) if !file.starts_with('-') => Ok(Asked::Key(file.into())),
+        (None, _) => Err("a file for the key is missing: ./run key FILE".into()),
+        (Some(word), None) | (_, Some(word)) => Err(format!("'{word}' is not understood here; ./run key FILE makes a key in a new file")),
+    }
 }
 
 fn address_of(text: &str, lowest: u16) -> Result<SocketAddr, String> {

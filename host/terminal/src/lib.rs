@@ -1,31 +1,29 @@
 //! The candidate's screen and the invigilator's mirror, in a terminal.
 //!
-//! `sender` and `follower` are the two ends of a line of datagrams (`datagram`), which may be bad (`line`). `halves` has both ends in one
-//! terminal; `candidate` and `invigilator` have one each, over UDP (`udp`); `played` needs no terminal. `desk` turns keys into calls, `canvas`
-//! and `terminal` show the result, `witness` compares a mirror with what the keys make. A candidate that restarts begins a new sitting
-//! (`sitting` has its number); of those that were, `sittings` keeps the last screens, and `view` looks at them.
+//! The package `line` has the two ends of the line between them, and what is sent may go over a bad one (`bad_line`). `halves` has both ends in one
+//! terminal; `candidate` and `invigilator` have one each, over UDP (`udp`), with a key from a file (`key_file`); `played` needs no terminal. `desk`
+//! turns keys into calls, `canvas` and `terminal` show the result, `clock` has the time, `witness` compares a mirror with what the keys make. A
+//! candidate that restarts begins a new sitting (`sitting` has its number); the last screens of those that were can be looked at (`view`).
 #![forbid(unsafe_code)]
 
 pub mod arguments;
+pub mod bad_line;
 pub mod candidate;
 pub mod canvas;
-pub mod datagram;
+pub mod clock;
 pub mod desk;
 #[cfg(test)]
 #[path = "../tests/folder/mod.rs"]
 mod folder;
-pub mod follower;
 pub mod glyphs;
 pub mod halves;
 pub mod invigilator;
+pub mod key_file;
 pub mod keys;
-pub mod line;
 pub mod played;
 #[cfg(test)]
 mod samples;
-pub mod sender;
 pub mod sitting;
-pub mod sittings;
 pub mod terminal;
 pub mod udp;
 pub mod view;

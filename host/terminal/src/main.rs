@@ -2,17 +2,25 @@
 #![forbid(unsafe_code)]
 use std::io::{self, IsTerminal};
 use std::process::exit;
-use terminal::arguments::{self, Arguments, Place};
+use terminal::arguments::{self, Arguments, Asked, Place};
+use terminal::bad_line::{new_seed, Faults};
 use terminal::keys::{self, Key};
-use terminal::line::{new_seed, Faults};
-use terminal::{candidate, halves, invigilator, played, sitting};
+use terminal::{candidate, halves, invigilator, key_file, played, sitting};
 
 fn main() {
-    let Some(arguments) = arguments::read(std::env::args().skip(1)).unwrap_or_else(|sentence| end(2, &sentence)) else {
-        print!("{}", arguments::HELP);
-        return;
+    let asked = arguments::read(std::env::args().skip(1)).unwrap_or_else(|sentence| end(2, &sentence));
+    let done = match asked {
+        Asked::Help => {
+            print!("{}", arguments::HELP);
+            Ok(true)
+        }
+        Asked::Key(file) => key_file::make(&file).map(|()| {
+            println!("{} holds a new key; the other end needs a copy, and whoever else has one can forge", file.display());
+            true
+        }),
+        Asked::Run(arguments) => run(arguments),
     };
-    match run(arguments) {
+    match done {
         Ok(held) => exit(!held as i32),
         Err(sentence) => end(1, &sentence),
     }
@@ -23,25 +31,29 @@ fn end(status: i32, sentence: &str) -> ! {
     exit(status)
 }
 
-fn run(Arguments { place, width, faults, seed, sitting, keys }: Arguments) -> Result<bool, String> {
+fn run(Arguments { place, key, width, faults, seed, sitting, keys }: Arguments) -> Result<bool, String> {
     let in_terminal = io::stdin().is_terminal() && io::stdout().is_terminal();
     let seed = seed.unwrap_or_else(new_seed);
     let keys = keys.map(|file| from_file(&file)).transpose()?;
+    let shared = key.map(|file| key_file::read(&file)).transpose()?;
     let columns = width.unwrap_or(80);
-    let done = match (place, keys) {
-        (Place::Both, _) if in_terminal => both(width, faults.unwrap_or(halves::FAULTS), seed),
-        (Place::Both, _) => played::play(&played::recorded(), columns, faults.unwrap_or(Faults::BAD), seed, &mut io::stdout().lock()),
-        (_, None) if !in_terminal => return Err("standard input and output are no terminal; without one, --keys FILE has the keys".into()),
-        (Place::To(to), keys) => {
+    let done = match (place, keys, shared) {
+        (Place::Both, ..) if in_terminal => both(width, faults.unwrap_or(halves::FAULTS), seed),
+        (Place::Both, ..) => played::play(&played::recorded(), columns, faults.unwrap_or(Faults::BAD), seed, &mut io::stdout().lock()),
+        (_, None, _) if !in_terminal => {
+            return Err("standard input and output are no terminal; without one, --keys FILE has the keys".into())
+        }
+        (_, _, None) => return Err("a key is missing".into()),
+        (Place::To(to), keys, Some(shared)) => {
             let sitting = sitting::of_this_start(sitting)?;
-            let start = candidate::Start { to, width: columns, faults: faults.unwrap_or_default(), seed, sitting };
+            let start = candidate::Start { to, shared, width: columns, faults: faults.unwrap_or_default(), seed, sitting };
             match keys {
                 Some(keys) => candidate::with_keys(start, &keys),
                 None => candidate::in_terminal(start).map(|()| true),
             }
         }
-        (Place::Listen(listen), Some(keys)) => invigilator::with_keys(listen, &keys),
-        (Place::Listen(listen), None) => invigilator::in_terminal(listen).map(|()| true),
+        (Place::Listen(listen), Some(keys), Some(shared)) => invigilator::with_keys(listen, &shared, &keys),
+        (Place::Listen(listen), None, Some(shared)) => invigilator::in_terminal(listen, &shared).map(|()| true),
     };
     done.map_err(|problem| match place {
         Place::Listen(listen) => cannot_listen(listen, problem),

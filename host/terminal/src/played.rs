@@ -1,14 +1,17 @@
 //! Recorded keys over a bad line, without a terminal, with a restart in mid-paper: the screens, and the verdict.
+use crate::bad_line::Faults;
 use crate::canvas::{Canvas, Size};
-use crate::follower::{Follower, Taken};
 use crate::halves::Halves;
 use crate::keys::{self, Key};
-use crate::line::Faults;
 use crate::view;
 use crate::witness::Witnesses;
 use futonrobin::{KeyTable, Shown};
+use line::Taken;
 use std::io::{self, Write};
-use std::time::Instant;
+use std::time::{Duration, Instant};
+
+/// So much time passes from key to key, on a clock that stands still otherwise.
+pub const KEY: Duration = Duration::from_millis(50);
 
 /// What a candidate typed.
 pub fn recorded() -> Vec<Key> {
@@ -21,20 +24,21 @@ pub fn play(keys: &[Key], width: u32, faults: Faults, seed: u64, out: &mut impl 
     writeln!(out, "{} of {} recorded keys, a restart, then all; {faults}, seed {seed}", half.len(), keys.len())?;
     let now = Instant::now();
     let mut halves = Halves::new(width, faults, seed, now);
-    let mut verdict = Verdict { witnesses: Witnesses::new(keys), level: 0, behind: 0, wrong: Vec::new() };
-    let first = halves.full(now);
-    verdict.sitting(&mut halves, first, half, now);
-    let first = halves.restart(now);
-    verdict.sitting(&mut halves, first, keys, now);
+    let mut verdict = Verdict { witnesses: Witnesses::new(keys), now, level: 0, behind: 0, wrong: Vec::new() };
+    let first = halves.full();
+    verdict.sitting(&mut halves, first, half);
+    let first = halves.restart();
+    verdict.sitting(&mut halves, first, keys);
     // From here on the line is good, and a last full report arrives.
-    halves.sender.line.faults = Faults::default();
-    let last = halves.full(now);
-    verdict.sitting(&mut halves, last, &[], now);
+    (halves.there.faults, halves.back.faults) = (Faults::default(), Faults::default());
+    let last = halves.full();
+    verdict.sitting(&mut halves, last, &[]);
     verdict.print(&halves, out)
 }
 
 struct Verdict {
     witnesses: Witnesses,
+    now: Instant,
     level: u64,
     behind: u64,
     wrong: Vec<String>,
@@ -42,30 +46,34 @@ struct Verdict {
 
 impl Verdict {
     /// Something arrives, then keys are pressed.
-    fn sitting(&mut self, halves: &mut Halves, arriving: Vec<Vec<u8>>, keys: &[Key], now: Instant) {
-        arriving.iter().for_each(|datagram| self.arrives(&mut halves.follower, datagram, now));
+    fn sitting(&mut self, halves: &mut Halves, arriving: Vec<Vec<u8>>, keys: &[Key]) {
+        self.arrive(halves, arriving);
         for &key in keys {
-            let pressed = halves.press(key, now);
-            for datagram in pressed.into_iter().chain(halves.pass(now)) {
-                self.arrives(&mut halves.follower, &datagram, now);
+            self.now += KEY;
+            let pressed = halves.press(key);
+            self.arrive(halves, pressed);
+            let passed = halves.pass(self.now);
+            self.arrive(halves, passed);
+        }
+    }
+
+    /// Datagrams arrive, and the mirror is looked at after each report.
+    fn arrive(&mut self, halves: &mut Halves, datagrams: Vec<Vec<u8>>) {
+        for datagram in datagrams {
+            match halves.hear(&datagram) {
+                Taken::Garbage | Taken::Twice => self.wrong.push("what the candidate sent was not taken".into()),
+                Taken::Sign | Taken::Piece => {}
+                Taken::Arrived | Taken::Older => match self.witnesses.check(halves.follower()) {
+                    Ok(true) => self.level += 1,
+                    Ok(false) => self.behind += 1,
+                    Err(difference) => self.wrong.push(difference),
+                },
             }
         }
     }
 
-    /// A datagram arrives, and the mirror is looked at.
-    fn arrives(&mut self, follower: &mut Follower, datagram: &[u8], now: Instant) {
-        if follower.receive(datagram, now) == Taken::Garbage {
-            self.wrong.push("what the candidate sent was not taken".into());
-        }
-        match self.witnesses.check(follower) {
-            Ok(true) => self.level += 1,
-            Ok(false) => self.behind += 1,
-            Err(difference) => self.wrong.push(difference),
-        }
-    }
-
     fn print(&mut self, halves: &Halves, out: &mut impl Write) -> io::Result<bool> {
-        let (screen, follower) = (&halves.desk.screen, &halves.follower);
+        let (screen, follower, counts) = (&halves.desk.screen, halves.follower(), halves.invigilator.counts);
         for earlier in follower.earlier() {
             print_screen(&format!("LAST SCREEN: {} heard of", view::last_screen(earlier)), earlier, out)?;
         }
@@ -81,12 +89,12 @@ impl Verdict {
         for difference in &self.wrong {
             writeln!(out, "WRONG: {difference}")?;
         }
-        let (arrived, lost, Verdict { level, behind, wrong, .. }) = (follower.arrived + follower.older, halves.sender.line.lost, self);
+        let (arrived, lost, Verdict { level, behind, wrong, .. }) = (counts.arrived + counts.older, halves.there.lost, self);
         let shown = mirror.map_or("nothing".into(), |mirror| mirror.pair().to_string());
-        writeln!(out, "{arrived} datagrams arrived, {lost} were lost; the mirror shows {shown}")?;
-        writeln!(out, "the mirror after each arrival: {level} times level, {behind} times behind, {} times wrong", wrong.len())?;
+        writeln!(out, "{arrived} reports arrived, {lost} datagrams were lost; the mirror shows {shown}")?;
+        writeln!(out, "the mirror after each report: {level} times level, {behind} times behind, {} times wrong", wrong.len())?;
         let held = wrong.is_empty() && mirror.is_some_and(|mirror| mirror.is_level() && mirror.same_as(screen));
-        writeln!(out, "{}", if held { "AS PROVED: both show the same screen, and no arrival showed another" } else { "NOT AS PROVED" })?;
+        writeln!(out, "{}", if held { "AS PROVED: both show the same screen, and no report showed another" } else { "NOT AS PROVED" })?;
         Ok(held)
     }
 }

@@ -1,24 +1,56 @@
-//! Datagrams for the tests, of any sitting and serial.
-use crate::datagram::{self, Datagram};
-use futonrobin::{Report, Screen, Shown};
+//! For the tests: an invigilator's end, and candidates of any sitting and serial that speak with it.
+use futonrobin::{Screen, Shown};
+use line::{Candidate, Invigilator, SharedKey};
+use std::collections::BTreeMap;
+use std::net::SocketAddr;
+use std::time::Instant;
 
 /// Where a record has its serial (docs/ABI.md). No test could make thousands of millions of calls.
 const SERIAL: std::ops::Range<usize> = 9..13;
 
-fn screen(sitting: u32, serial: u32) -> Screen {
+pub fn screen(sitting: u32, serial: u32) -> Screen {
     let mut record = Screen::new(40, sitting).record().to_vec();
     record[SERIAL].copy_from_slice(&serial.to_be_bytes());
     Screen::from_bytes(&record).unwrap()
 }
 
-fn sent(report: Report) -> Vec<u8> {
-    datagram::write(Datagram::Report { width: 40, report: report.as_bytes() })
+/// The candidates, by their sittings.
+pub struct Candidates {
+    pub shared: SharedKey,
+    of: BTreeMap<u32, Candidate>,
 }
 
-pub fn full(sitting: u32, serial: u32) -> Vec<u8> {
-    sent(screen(sitting, serial).report_full())
+impl Candidates {
+    pub fn new(shared: SharedKey) -> Self {
+        Self { shared, of: BTreeMap::new() }
+    }
+
+    /// A full report comes of a screen that is still so.
+    pub fn full(&mut self, invigilator: &mut Invigilator, screen: &Screen, now: Instant) {
+        let sent = self.of(screen, now).full(screen, now);
+        hear(invigilator, &sent, screen.sitting(), now);
+        for (_, question) in invigilator.ask(now) {
+            let candidate = self.of(screen, now);
+            candidate.receive(&question);
+            hear(invigilator, &candidate.due(screen, now), screen.sitting(), now);
+        }
+    }
+
+    /// A step comes, and nothing is asked.
+    pub fn step(&mut self, invigilator: &mut Invigilator, screen: &Screen, now: Instant) {
+        let sent = self.of(screen, now).send(screen, &screen.report_step(), now);
+        hear(invigilator, &sent, screen.sitting(), now);
+    }
+
+    fn of(&mut self, screen: &Screen, now: Instant) -> &mut Candidate {
+        self.of.entry(screen.sitting()).or_insert_with(|| Candidate::new(&self.shared, screen, now))
+    }
 }
 
-pub fn step(sitting: u32, serial: u32) -> Vec<u8> {
-    sent(screen(sitting, serial).report_step())
+/// From an address that the sitting has for itself.
+fn hear(invigilator: &mut Invigilator, sent: &[Vec<u8>], sitting: u32, now: Instant) {
+    let from: SocketAddr = ([127, 0, 0, 1], sitting as u16).into();
+    for datagram in sent {
+        invigilator.receive(datagram, from, now);
+    }
 }

@@ -69,7 +69,7 @@ fn decide(asked: Option<u32>, clock: u32, last: Option<u32>) -> Result<(u32, Opt
             }
             None => Err(format!(
                 "sitting {last} was the last one here, and there is no larger one: \
-                 give a small --sitting N to an invigilator that is started anew, or remove the file that keeps it"
+                 make a new key, and give a small --sitting N to an invigilator that is started anew, or remove the file that keeps it"
             )),
         },
     }
@@ -77,10 +77,10 @@ fn decide(asked: Option<u32>, clock: u32, last: Option<u32>) -> Result<(u32, Opt
 
 /// One was asked for that is smaller than the last one.
 fn smaller(asked: u32, last: u32) -> Told {
-    let what = format!("NOT SHOWN where {last} was seen; if used before, both are taken for one");
+    let what = format!("NOT SHOWN where {last} was heard, nor where {asked} was used before");
     let why = format!(
-        "an invigilator who has seen sitting {last}, the last one here, does not show {asked}; \
-         and if {asked} was used before, a mirror takes both screens for one"
+        "an invigilator who has heard sitting {last}, the last one here, does not show {asked}; \
+         and one who has heard {asked} before takes nothing of a second start with that number"
     );
     Told { what, why }
 }
@@ -337,10 +337,10 @@ mod tests {
         assert_eq!(folder.quietly(Some(8), 1000), 8);
         let (number, told) = folder.telling(Some(3), 1000);
         assert_eq!((number, folder.held()), (3, "8\n".into()), "the largest is kept");
-        assert_eq!(told.what, "NOT SHOWN where 8 was seen; if used before, both are taken for one");
-        assert!(told
-            .why
-            .contains("who has seen sitting 8, the last one here, does not show 3; and if 3 was used before, a mirror takes both"));
+        assert_eq!(told.what, "NOT SHOWN where 8 was heard, nor where 3 was used before");
+        assert!(told.why.contains(
+            "who has heard sitting 8, the last one here, does not show 3; and one who has heard 3 before takes nothing of a second start"
+        ));
         let told = choose(Some(8), 1000, Some(&folder.file()), LONG).unwrap_err();
         assert!(told.starts_with("sitting 8 was the last one here: give a larger one, or leave --sitting out ("), "{told}");
         assert_eq!(folder.quietly(Some(5000), 1000), 5000);

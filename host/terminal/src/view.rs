@@ -1,9 +1,9 @@
 //! What the invigilator looks at, the mirror or the last screen of an earlier sitting; and the words beside it.
 use crate::canvas::{PLAIN, REVERSED, STRONG};
-use crate::datagram::Shows;
-use crate::follower::{Follower, State, SILENT_AFTER};
 use futonrobin::{Mirror, Shown};
-use std::time::Instant;
+use line::fresh::seconds;
+use line::{Follower, State};
+use std::time::{Duration, Instant};
 
 /// What the keys do while an earlier screen is looked at.
 pub const HELP_BACK: &str = "PageDown leads back to the current screen, PageUp to the sitting before";
@@ -46,20 +46,24 @@ impl View {
         }
     }
 
-    /// What stands under the title: at the mirror its state, its calls and how many sittings there were; at an earlier screen its calls, then
-    /// state and calls of the mirror, which goes on. In either case an older sitting that is heard.
+    /// What stands under the title: at the mirror its state, its age with its calls, and how many sittings there were; at an earlier screen its
+    /// calls, then state with age and calls of the mirror, which goes on. In either case an older sitting that is still there.
     ///
-    /// Half a terminal has 40 columns for each. State and sittings fit there whatever the numbers are.
+    /// Half a terminal has 40 columns for each, which is enough but for numbers that nobody meets.
     pub fn lines(&self, follower: &Follower, now: Instant) -> [(String, u8); 4] {
-        let (state, calls) = (follower.state(now), calls(follower, now));
-        let emphasis = if state == State::Level { PLAIN } else { STRONG };
+        let (state, age, calls) = (follower.state(now), follower.of_when(now), calls(follower, now));
+        let emphasis = if state.is_level() { PLAIN } else { STRONG };
         let older = (older(follower, now), STRONG);
         match self.earlier(follower) {
-            None => [(state.to_string(), emphasis), (calls, emphasis), (how_many(follower), PLAIN), older],
+            None => {
+                let calls = if age.is_empty() { calls } else { format!("{age}  {calls}") };
+                [(state.to_string(), emphasis), (calls, emphasis), (how_many(follower), PLAIN), older]
+            }
             Some(earlier) => {
-                let current = follower.mirror().filter(|mirror| mirror.newest().sitting == mirror.sitting());
-                let of = current.map_or(String::new(), |mirror| format!("sitting {}  ", mirror.sitting()));
-                [(calls_of(earlier), PLAIN), (format!("now {state}"), emphasis), (of + &calls, emphasis), older]
+                let current = follower.shown().filter(|shown| follower.heard().is_some_and(|heard| heard.sitting == shown.sitting));
+                let of = current.map_or(String::new(), |shown| format!("sitting {}  ", shown.sitting));
+                let now = if age.is_empty() { format!("now {state}") } else { format!("now {state}, {age}") };
+                [(calls_of(earlier), PLAIN), (now, emphasis), (of + &calls, emphasis), older]
             }
         }
     }
@@ -67,11 +71,10 @@ impl View {
 
 /// m and n, which are of one sitting unless another has begun.
 fn calls(follower: &Follower, now: Instant) -> String {
-    match (follower.state(now), follower.shows()) {
-        (State::Begun(_, seconds), _) if seconds < SILENT_AFTER.as_secs() => "no full report yet".into(),
-        (State::Begun(_, seconds), _) => format!("no full report yet, {}", State::Silent(seconds)),
-        (_, Some(Shows { shown, newest })) => format!("m {}  n {}", shown.serial, newest.serial),
-        (_, None) => String::new(),
+    match (follower.state(now), follower.shown(), follower.heard()) {
+        (State::Begun { .. }, ..) => "no full report".into(),
+        (_, Some(shown), Some(heard)) => format!("m {}  n {}", shown.serial, heard.serial),
+        _ => String::new(),
     }
 }
 
@@ -94,30 +97,30 @@ fn how_many(follower: &Follower) -> String {
     }
 }
 
-/// That a smaller sitting than the newest is still heard, if one is.
+/// That a smaller sitting than the newest is still there, if one is.
 fn older(follower: &Follower, now: Instant) -> String {
-    follower.older_heard(now).map_or(String::new(), |(sitting, ago)| format!("older sitting {sitting} heard {ago} s ago"))
+    let told = |(sitting, ago): (u32, Duration)| format!("older sitting {sitting} heard {} ago", seconds(ago));
+    follower.older_heard(now).map_or(String::new(), told)
 }
 
 #[cfg(test)]
 mod tests {
     use super::*;
     use crate::canvas::fitting;
-    use crate::datagram::{self, Datagram};
-    use crate::samples::{full, step};
+    use crate::samples::{screen, Candidates};
     use futonrobin::Screen;
-    use std::time::Duration;
+    use line::{Invigilator, SharedKey};
 
-    /// A follower that was sent a full report of each of these sittings.
-    fn heard(sittings: impl IntoIterator<Item = u32>) -> Follower {
-        let mut follower = Follower::default();
+    /// A follower that was sent a full report of each of these sittings, and has asked.
+    fn heard(sittings: impl IntoIterator<Item = u32>, now: Instant) -> Follower {
+        let shared = SharedKey::draw();
+        let (mut invigilator, mut candidates) = (Invigilator::new(&shared), Candidates::new(shared));
         for sitting in sittings {
             let mut screen = Screen::new(40, sitting);
             screen.print_bytes(sitting.to_string().as_bytes()).unwrap();
-            let report = screen.report_full();
-            follower.receive(&datagram::write(Datagram::Report { width: 40, report: report.as_bytes() }), Instant::now());
+            candidates.full(&mut invigilator, &screen, now);
         }
-        follower
+        invigilator.follower
     }
 
     fn text(view: &View, follower: &Follower) -> String {
@@ -130,14 +133,15 @@ mod tests {
 
     #[test]
     fn back_and_forth() {
-        let (follower, mut view, now) = (heard([3, 5, 9]), View::default(), Instant::now());
+        let now = Instant::now();
+        let (follower, mut view) = (heard([3, 5, 9], now), View::default());
         assert_eq!((text(&view, &follower), view.title(&follower)), ("9".into(), ("INVIGILATOR  sitting 9".into(), STRONG)));
-        assert_eq!(lines(&view, &follower, now), ["LEVEL", "m 1  n 1", "3 sittings so far", ""]);
+        assert_eq!(lines(&view, &follower, now), ["LEVEL, 0.0 s", "m 1  n 1", "3 sittings so far", ""]);
         view.forth(&follower);
         assert_eq!(text(&view, &follower), "9", "there is nothing after now");
         view.back(&follower);
         assert_eq!((text(&view, &follower), view.title(&follower)), ("5".into(), ("NOT CURRENT: sitting 5".into(), REVERSED)));
-        assert_eq!(lines(&view, &follower, now), ["call 1 of 1", "now LEVEL", "sitting 9  m 1  n 1", ""]);
+        assert_eq!(lines(&view, &follower, now), ["call 1 of 1", "now LEVEL, 0.0 s", "sitting 9  m 1  n 1", ""]);
         view.back(&follower);
         assert_eq!(text(&view, &follower), "3");
         view.back(&follower);
@@ -150,13 +154,14 @@ mod tests {
 
     #[test]
     fn looking_back_while_the_candidate_restarts() {
-        let (mut follower, mut view) = (heard([3, 5]), View::default());
+        let now = Instant::now();
+        let (mut follower, mut view) = (heard([3, 5], now), View::default());
         view.back(&follower);
-        follower = heard([3, 5, 9]);
+        follower = heard([3, 5, 9], now);
         assert_eq!(text(&view, &follower), "3", "it stays where it was");
-        follower = heard(3..30);
+        follower = heard(3..30, now);
         assert_eq!(text(&view, &follower), "29", "what is no longer kept is no longer looked at");
-        assert_eq!(lines(&view, &follower, Instant::now())[2], "27 sittings so far, 16 kept");
+        assert_eq!(lines(&view, &follower, now)[2], "27 sittings so far, 16 kept");
     }
 
     #[test]
@@ -171,32 +176,46 @@ mod tests {
     const LAST: u32 = u32::MAX;
     const HALF: usize = 40;
 
-    /// A follower with sittings and serials of ten digits: an earlier sitting, a shown one, and then these datagrams.
-    fn with_largest(more: &[Vec<u8>], now: Instant) -> Follower {
-        let mut follower = Follower::default();
-        for datagram in [full(LAST - 2, LAST), full(LAST - 1, 1_000_000_000)].iter().chain(more) {
-            follower.receive(datagram, now);
+    /// A follower with sittings and serials of ten digits: an earlier sitting, a shown one, then a step of one and a full report of another.
+    fn with_largest(step: Option<(u32, u32)>, full: Option<(u32, u32)>, now: Instant) -> Follower {
+        let shared = SharedKey::draw();
+        let (mut invigilator, mut candidates) = (Invigilator::new(&shared), Candidates::new(shared));
+        for (sitting, serial) in [(LAST - 2, LAST), (LAST - 1, 1_000_000_000)] {
+            candidates.full(&mut invigilator, &screen(sitting, serial), now);
         }
-        follower
+        if let Some((sitting, serial)) = step {
+            candidates.step(&mut invigilator, &screen(sitting, serial), now);
+        }
+        if let Some((sitting, serial)) = full {
+            candidates.full(&mut invigilator, &screen(sitting, serial), now);
+        }
+        invigilator.follower
     }
 
     #[test]
     fn the_largest_numbers_fit_into_half_a_terminal() {
         let now = Instant::now();
-        let long = now + Duration::from_secs(9_999_999);
-        let (behind, begun) = (step(LAST - 1, LAST), [step(LAST, 1), full(LAST - 2, LAST)]);
+        let (soon, long) = (now + Duration::from_secs(4), now + Duration::from_secs(9_999_999));
+        let begun = |now| with_largest(Some((LAST, 1)), Some((LAST - 2, LAST)), now);
+        let behind = |now| with_largest(Some((LAST - 1, LAST)), None, now);
         let cases = [
-            (with_largest(&[behind], now), now, ["BEHIND by 3294967295", "m 1000000000  n 4294967295", "2 sittings so far", ""]),
-            (with_largest(&[], now), long, ["SILENT for 9999999 s", "m 1000000000  n 1000000000", "2 sittings so far", ""]),
+            // Only where both calls have ten digits they are cut, and seen to be cut.
+            (behind(now), soon, ["BEHIND by 3294967295", "the screen of 4.0 s ago  m 1000000000  …", "2 sittings so far", ""]),
             (
-                with_largest(&begun, now),
+                behind(now),
                 long,
-                ["BEGUN: sitting 4294967295", "no full report yet, SILENT for 9999999 s", "3 sittings so far", ""],
+                ["SILENT for 9999999 s, BEHIND by 3294967…", "the screen of 9999999 s ago  m 10000000…", "2 sittings so far", ""],
             ),
+            (with_largest(None, None, now), now, ["LEVEL, 0.0 s", "m 1000000000  n 1000000000", "2 sittings so far", ""]),
             (
-                with_largest(&begun, now),
-                now + Duration::from_secs(4),
-                ["BEGUN: sitting 4294967295", "no full report yet", "3 sittings so far", "older sitting 4294967293 heard 4 s ago"],
+                begun(now),
+                soon,
+                [
+                    "BEGUN: sitting 4294967295",
+                    "the screen of 4.0 s ago  no full report",
+                    "3 sittings so far",
+                    "older sitting 4294967293 heard 4.0 s ago",
+                ],
             ),
         ];
         for (follower, now, expected) in cases {
@@ -209,14 +228,18 @@ mod tests {
     #[test]
     fn the_largest_numbers_when_looking_back() {
         let (mut view, now) = (View::default(), Instant::now());
-        let follower = with_largest(&[step(LAST - 1, LAST)], now);
+        let follower = with_largest(Some((LAST - 1, LAST)), None, now);
         view.back(&follower);
         assert_eq!(view.title(&follower).0, "NOT CURRENT: sitting 4294967293");
         let shown = lines(&view, &follower, now).map(|line| fitting(&line, HALF));
         // Only where both calls have more than seven digits they are cut, and seen to be cut.
-        assert_eq!(shown, ["call 4294967295 of 4294967295", "now BEHIND by 3294967295", "sitting 4294967294  m 1000000000  n 429…", ""]);
-        let follower = with_largest(&[step(LAST, 1), full(LAST - 2, LAST)], now);
-        let begun = ["now BEGUN: sitting 4294967295", "no full report yet", "older sitting 4294967293 heard 0 s ago"];
+        assert_eq!(
+            shown,
+            ["call 4294967295 of 4294967295", "now BEHIND by 3294967295, the screen of…", "sitting 4294967294  m 1000000000  n 429…", ""]
+        );
+        let follower = with_largest(Some((LAST, 1)), Some((LAST - 2, LAST)), now);
+        let begun =
+            ["now BEGUN: sitting 4294967295, the screen of 0.0 s ago", "no full report", "older sitting 4294967293 heard 0.0 s ago"];
         assert_eq!(lines(&view, &follower, now)[1..], begun);
     }
 }

@@ -1,8 +1,8 @@
 //! Witnesses of a session: they know all keys, and so the screen after each number of accepted calls.
 use crate::desk::Desk;
-use crate::follower::Follower;
 use crate::keys::{self, Key};
 use futonrobin::{Mirror, Shown};
+use line::Follower;
 use std::collections::BTreeMap;
 
 /// One for each sitting that the mirror has shown; in each the same keys are pressed from the beginning.
@@ -16,7 +16,7 @@ impl Witnesses {
         Self { keys: keys.to_vec(), of: BTreeMap::new() }
     }
 
-    /// Looks at the mirror after an arrival, with the witness of the sitting that it shows; whether it is level.
+    /// Looks at the mirror after a report, with the witness of the sitting that it shows; whether it shows the newest call that a report told of.
     pub fn check(&mut self, follower: &Follower) -> Result<bool, String> {
         let mirror = follower.mirror().ok_or("there is no mirror")?;
         let known = self.of.entry(mirror.sitting());
@@ -93,8 +93,9 @@ fn difference(mirror: &Mirror, screen: &impl Shown) -> String {
 #[cfg(test)]
 mod tests {
     use super::*;
-    use crate::datagram::{self, Datagram};
+    use crate::samples::Candidates;
     use futonrobin::{Report, Screen};
+    use line::{Invigilator, SharedKey};
     use std::time::Instant;
 
     fn keys() -> Vec<Key> {
@@ -149,35 +150,51 @@ mod tests {
         assert!(Witness::new(80, 5, &keys()).check(&mirror_of(&typed(b"WARD 7", 6))).unwrap_err().contains("call 6 of sitting 6"));
     }
 
+    /// What was said of the mirror after each report: whether it is right, whether it has ended, how many earlier screens are wrong.
+    struct Scene {
+        candidates: Candidates,
+        invigilator: Invigilator,
+        witnesses: Witnesses,
+    }
+
+    impl Scene {
+        fn new() -> Self {
+            let shared = SharedKey::draw();
+            Self { invigilator: Invigilator::new(&shared), candidates: Candidates::new(shared), witnesses: Witnesses::new(&keys()) }
+        }
+
+        fn full(&mut self, screen: &Screen) -> (Result<bool, String>, bool, usize) {
+            self.candidates.full(&mut self.invigilator, screen, Instant::now());
+            self.look()
+        }
+
+        fn step(&mut self, screen: &Screen) -> (Result<bool, String>, bool, usize) {
+            self.candidates.step(&mut self.invigilator, screen, Instant::now());
+            self.look()
+        }
+
+        fn look(&mut self) -> (Result<bool, String>, bool, usize) {
+            let follower = &self.invigilator.follower;
+            (self.witnesses.check(follower), self.witnesses.ended(follower), self.witnesses.check_earlier(follower).len())
+        }
+    }
+
     #[test]
     fn each_sitting_has_its_witness() {
-        let (mut follower, mut witnesses) = (Follower::default(), Witnesses::new(&keys()));
-        let mut arrive = |screen: &Screen, report: &Report| {
-            let width = screen.width() as u8;
-            follower.receive(&datagram::write(Datagram::Report { width, report: report.as_bytes() }), Instant::now());
-            (witnesses.check(&follower), witnesses.ended(&follower), witnesses.check_earlier(&follower))
-        };
-        let (first, second) = (typed(b"WARD", 5), typed(b"WARD 7", 6));
-        assert_eq!(arrive(&first, &first.report_full()), (Ok(true), false, vec![]));
-        assert_eq!(arrive(&second, &second.report_step()), (Ok(false), false, vec![]), "sitting 6 has begun");
-        assert_eq!(arrive(&second, &second.report_full()), (Ok(true), true, vec![]));
-        // A late and wrong report is no matter of the mirror, but of the earlier screen.
-        let wrong = typed(b"WARD 8", 5);
-        let (mirror, ended, earlier) = arrive(&wrong, &wrong.report_full());
-        assert_eq!((mirror, ended, earlier.len()), (Ok(true), true, 1));
+        let mut scene = Scene::new();
+        assert_eq!(scene.full(&typed(b"WARD", 5)), (Ok(true), false, 0));
+        assert_eq!(scene.step(&typed(b"WARD 7", 6)), (Ok(false), false, 0), "sitting 6 has begun");
+        assert_eq!(scene.full(&typed(b"WARD 7", 6)), (Ok(true), true, 0));
+        assert_eq!(scene.full(&typed(b"WARD 8", 5)), (Ok(true), true, 1), "a late and wrong report is a matter of the earlier screen");
     }
 
     #[test]
     fn earlier_sittings_that_were_never_shown() {
-        let (mut follower, mut witnesses) = (Follower::default(), Witnesses::new(&keys()));
-        let mut arrive = |report: Report| {
-            follower.receive(&datagram::write(Datagram::Report { width: 80, report: report.as_bytes() }), Instant::now());
-            (witnesses.check(&follower), witnesses.check_earlier(&follower).len())
-        };
-        assert_eq!(arrive(typed(b"WARD", 5).report_full()), (Ok(true), 0));
-        assert_eq!(arrive(typed(b"W", 6).report_step()), (Ok(false), 0));
-        assert_eq!(arrive(typed(b"B", 7).report_step()), (Ok(false), 0));
-        assert_eq!(arrive(typed(b"WARD 7", 8).report_full()), (Ok(true), 1), "6 is as the keys make it, 7 is not");
-        assert_eq!(arrive(typed(b"BED", 4).report_full()), (Ok(true), 1), "4 may be another's");
+        let mut scene = Scene::new();
+        assert_eq!(scene.full(&typed(b"WARD", 5)), (Ok(true), false, 0));
+        assert_eq!(scene.step(&typed(b"W", 6)), (Ok(false), false, 0));
+        assert_eq!(scene.step(&typed(b"B", 7)), (Ok(false), false, 0));
+        assert_eq!(scene.full(&typed(b"WARD 7", 8)), (Ok(true), true, 1), "6 is as the keys make it, 7 is not");
+        assert_eq!(scene.full(&typed(b"BED", 4)), (Ok(true), true, 1), "4 may be another's");
     }
 }

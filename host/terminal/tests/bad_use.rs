@@ -1,6 +1,10 @@
 //! Words that cannot be taken get a sentence on standard error and a status that is not 0.
+mod folder;
+
+use folder::Folder;
 use std::fs;
 use std::net::UdpSocket;
+use std::os::unix::fs::PermissionsExt;
 use std::process::{Command, Output, Stdio};
 
 /// Where the sittings of these tests are kept.
@@ -31,19 +35,63 @@ fn words() {
     refused("--seed x", 2, "--seed takes a number");
 }
 
+/// A new key in a folder, and the words that name it.
+fn with_key(folder: &Folder) -> String {
+    let file = folder.0.join("key").display().to_string();
+    assert!(screens(&format!("key {file}")).status.success());
+    format!("--key {file}")
+}
+
+#[test]
+fn making_a_key() {
+    let folder = Folder::new("making-a-key");
+    let file = folder.0.join("key");
+    let words = format!("key {}", file.display());
+    let made = screens(&words);
+    assert!(made.status.success() && String::from_utf8(made.stdout).unwrap().contains("holds a new key"));
+    let held = fs::read(&file).unwrap();
+    refused(&words, 1, "is there already, and is left as it is");
+    assert_eq!(fs::read(&file).unwrap(), held);
+    refused("key", 2, "a file for the key is missing");
+    refused("key --force", 2, "'--force' is not understood here");
+    refused("key one two", 2, "'two' is not understood here");
+    refused("key no/such/folder/key", 1, "no/such/folder/key: ");
+}
+
+#[test]
+fn without_a_key_nothing_starts() {
+    let folder = Folder::new("without-a-key");
+    for program in ["candidate --to 127.0.0.1:4000", "invigilator --listen 127.0.0.1:0"] {
+        refused(program, 2, "a key is missing: ./run key FILE makes one");
+        refused(&format!("{program} --keys /dev/null"), 2, "a key is missing: ./run key FILE makes one");
+        refused(&format!("{program} --keys /dev/null --key"), 2, "--key needs a value after it");
+        refused(&format!("{program} --keys /dev/null --key no-such-key"), 1, "there is no no-such-key: ./run key no-such-key makes a key");
+        let file = folder.0.join("no-key");
+        fs::write(&file, "WARD 7").unwrap();
+        fs::set_permissions(&file, fs::Permissions::from_mode(0o600)).unwrap();
+        refused(&format!("{program} --keys /dev/null --key {}", file.display()), 1, "holds no key");
+        fs::set_permissions(&file, fs::Permissions::from_mode(0o644)).unwrap();
+        refused(&format!("{program} --keys /dev/null --key {}", file.display()), 1, "chmod 600");
+    }
+    refused("--key FILE", 2, "'--key' is not understood here");
+}
+
 #[test]
 fn sittings() {
     let range = "--sitting takes a number from 0 to 4294967295, not";
     for bad in ["x", "-1", "1.5", "4294967296"] {
         refused(&format!("candidate --to 127.0.0.1:4000 --sitting {bad}"), 2, &format!("{range} '{bad}'"));
     }
+    let folder = Folder::new("sittings");
+    let key = with_key(&folder);
     refused("candidate --to 127.0.0.1:4000 --sitting", 2, "--sitting needs a value after it");
     refused("invigilator --listen 127.0.0.1:4000 --sitting 3", 2, "'--sitting' is not understood here");
     refused("--sitting 3", 2, "'--sitting' is not understood here");
     fs::create_dir_all(format!("{STATE}/futonrobin")).unwrap();
     fs::write(format!("{STATE}/futonrobin/sitting"), "4294967295\n").unwrap();
-    refused("candidate --to 127.0.0.1:4000 --keys /dev/null", 1, "there is no larger one");
-    refused("candidate --to 127.0.0.1:4000 --keys /dev/null --sitting 4294967295", 1, "sitting 4294967295 was the last one here");
+    let program = format!("candidate --to 127.0.0.1:4000 --keys /dev/null {key}");
+    refused(&program, 1, "there is no larger one");
+    refused(&format!("{program} --sitting 4294967295"), 1, "sitting 4294967295 was the last one here");
     fs::remove_dir_all(STATE).unwrap();
 }
 
@@ -57,27 +105,30 @@ fn addresses() {
     refused("invigilator --listen 127.0.0.1:70000", 2, "is not a number from 0 to 65535");
     refused("invigilator --listen 127.0.0.1:x", 2, "is not a number from 0 to 65535");
     refused("invigilator --listen 256.0.0.1:4000", 2, "the host of '256.0.0.1:4000' was not found");
-    refused("invigilator --listen 192.0.2.1:4000 --keys /dev/null", 1, "is no address of this machine");
+    let folder = Folder::new("addresses");
+    let key = with_key(&folder);
+    refused(&format!("invigilator --listen 192.0.2.1:4000 --keys /dev/null {key}"), 1, "is no address of this machine");
     let taken = UdpSocket::bind("127.0.0.1:0").unwrap();
     let address = taken.local_addr().unwrap();
-    refused(&format!("invigilator --listen {address} --keys /dev/null"), 1, &format!("{address} is in use"));
+    refused(&format!("invigilator --listen {address} --keys /dev/null {key}"), 1, &format!("{address} is in use"));
 }
 
 #[test]
 fn keys_and_terminals() {
-    refused("candidate --to 127.0.0.1:4000", 1, "standard input and output are no terminal");
-    refused("candidate --to 127.0.0.1:4000 --keys no-such-file", 1, "no-such-file: ");
-    refused("invigilator --listen 127.0.0.1:0", 1, "standard input and output are no terminal");
-    let file = format!("{}/bad-keys-{}", env!("CARGO_TARGET_TMPDIR"), std::process::id());
+    let folder = Folder::new("keys-and-terminals");
+    let key = with_key(&folder);
+    refused(&format!("candidate --to 127.0.0.1:4000 {key}"), 1, "standard input and output are no terminal");
+    refused(&format!("candidate --to 127.0.0.1:4000 --keys no-such-file {key}"), 1, "no-such-file: ");
+    refused(&format!("invigilator --listen 127.0.0.1:0 {key}"), 1, "standard input and output are no terminal");
+    let file = folder.0.join("keys");
     fs::write(&file, "A<Entr>").unwrap();
-    refused(&format!("candidate --to 127.0.0.1:4000 --keys {file}"), 1, "there is no key <Entr>");
-    fs::remove_file(file).unwrap();
+    refused(&format!("candidate --to 127.0.0.1:4000 --keys {} {key}", file.display()), 1, "there is no key <Entr>");
 }
 
 #[test]
 fn help_and_the_recorded_keys() {
     let help = screens("--help");
-    assert!(help.status.success() && String::from_utf8(help.stdout).unwrap().contains("./run candidate --to HOST:PORT"));
+    assert!(help.status.success() && String::from_utf8(help.stdout).unwrap().contains("./run candidate --to HOST:PORT --key FILE"));
     for words in ["", "--width 40", "--loss 60 --repeat 60 --reorder 60", "--loss 100"] {
         let played = screens(words);
         let told = String::from_utf8(played.stdout).unwrap();

@@ -157,7 +157,7 @@ fn a_sitting_whose_first_full_report_is_lost() {
     // Where the keys take a second, a full report passes too; then the scene is played again.
     let begun = (1..20).step_by(2).find_map(|sitting| begun(&pane, sitting));
     let (sitting, shown) = begun.expect("one of ten times the keys take less than a second");
-    assert!(shown.has(&format!("BEGUN: sitting {sitting}")) && shown.has("no full report yet"));
+    assert!(shown.has(&format!("BEGUN: sitting {sitting}")) && shown.has("no full report"));
     assert!(invigilator(&shown)[0] == "BEFORE" && candidate(&shown)[0] == "A");
     pane.press("C-x");
     wait_for_both(&pane, 0, "A");

@@ -1,6 +1,9 @@
 //! The programs in a real terminal, as a person uses them. Every step waits for what the screen shows.
+mod attacks;
+mod between;
 #[path = "../folder/mod.rs"]
 mod folder;
 mod halves;
 mod pane;
+mod scene;
 mod two_terminals;

@@ -1,14 +1,28 @@
 //! A terminal of tmux with a program in it: keys go in, what is shown is read, and one waits for what should be shown.
 use crate::folder::Folder;
+use std::path::{Path, PathBuf};
 use std::process::Command;
+use std::sync::OnceLock;
 use std::thread::sleep;
 use std::time::{Duration, Instant};
+use terminal::key_file;
 
 /// Where the sittings of the programs are kept.
 const STATE: &str = concat!(env!("CARGO_TARGET_TMPDIR"), "/state-of-tmux");
 
 /// Longer than anything here takes; a test that waits so long has failed.
 pub const DEADLINE: Duration = Duration::from_secs(60);
+
+/// The file of the key that the programs share.
+pub fn key() -> &'static Path {
+    static KEY: OnceLock<PathBuf> = OnceLock::new();
+    KEY.get_or_init(|| {
+        let file = Path::new(env!("CARGO_TARGET_TMPDIR")).join("key-of-tmux");
+        // It may be there from an earlier run.
+        key_file::make(&file).or_else(|_| key_file::read(&file).map(drop)).unwrap();
+        file
+    })
+}
 
 pub struct Pane {
     /// Where the server has its socket.
@@ -27,6 +41,11 @@ impl Pane {
     /// The program of this package with these words.
     pub fn screens(name: &str, cols: usize, rows: usize, words: &str) -> Self {
         Self::start(name, cols, rows, &format!("{} {words}", env!("CARGO_BIN_EXE_screens")))
+    }
+
+    /// One of the programs over UDP, with the shared key.
+    pub fn over_udp(name: &str, cols: usize, rows: usize, words: &str) -> Self {
+        Self::screens(name, cols, rows, &format!("{words} --key {}", key().display()))
     }
 
     fn tmux(&self, words: &[&str]) -> String {

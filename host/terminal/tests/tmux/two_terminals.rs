@@ -1,28 +1,33 @@
 //! The candidate's and the invigilator's program in two terminals, over UDP.
 use crate::folder::Folder;
-use crate::pane::{Pane, Shown};
+use crate::pane::{key, Pane, Shown};
 use std::net::UdpSocket;
 
 /// The smallest terminal.
-const COLS: usize = 80;
-const ROWS: usize = 29;
+pub const COLS: usize = 80;
+pub const ROWS: usize = 29;
 
-/// An invigilator on any free port, and that port, which it shows.
+/// An invigilator on any free port, and that port.
 fn invigilator(name: &str) -> (Pane, u16) {
-    let pane = Pane::screens(name, COLS, ROWS, "invigilator --listen 127.0.0.1:0");
-    let port = |line: &String| line.split_once("listening at 127.0.0.1:").and_then(|(_, port)| port.trim().parse().ok());
-    let shown = pane.wait("the address", |shown| shown.lines.iter().any(|line| port(line).is_some()));
-    let port = shown.lines.iter().find_map(port).unwrap();
+    let pane = Pane::over_udp(name, COLS, ROWS, "invigilator --listen 127.0.0.1:0");
+    let port = port_of(&pane);
     (pane, port)
 }
 
+/// The port at which an invigilator listens; it shows it while nobody is heard.
+pub fn port_of(invigilator: &Pane) -> u16 {
+    let port = |line: &String| line.split_once("listening at 127.0.0.1:").and_then(|(_, port)| port.trim().parse().ok());
+    let shown = invigilator.wait("the address", |shown| shown.lines.iter().any(|line| port(line).is_some()));
+    shown.lines.iter().find_map(port).unwrap()
+}
+
 fn candidate(name: &str, port: u16, more: &str) -> Pane {
-    let pane = Pane::screens(name, COLS, ROWS, &format!("candidate --to 127.0.0.1:{port} --loss 20 --repeat 20 --reorder 50 {more}"));
+    let pane = Pane::over_udp(name, COLS, ROWS, &format!("candidate --to 127.0.0.1:{port} --loss 20 --repeat 20 --reorder 50 {more}"));
     pane.wait_for("1LIST");
     pane
 }
 
-fn first_row(shown: &Shown) -> &str {
+pub fn first_row(shown: &Shown) -> &str {
     shown.lines[0].trim_end()
 }
 
@@ -70,7 +75,7 @@ fn a_smaller_sitting_is_told_at_both_ends_and_never_shown() {
     newer.write("AFTER A RESTART!");
     invigilator.wait("what is typed", |shown| first_row(shown) == "AFTER A RESTART!");
     let older = candidate("older", port, "--sitting 5");
-    older.wait("the notice", |shown| shown.has("NOT SHOWN where") && shown.has("if used before, both are taken for one"));
+    older.wait("the notice", |shown| shown.has("NOT SHOWN where") && shown.has("nor where 5 was used before"));
     older.write("UNSEEN");
     older.wait_for("NOT SHOWN: the invigilator follows sitting");
     let shown = invigilator.wait("the older one, and LEVEL", |shown| shown.has("older sitting 5 heard") && shown.has("LEVEL"));
@@ -80,7 +85,8 @@ fn a_smaller_sitting_is_told_at_both_ends_and_never_shown() {
 #[test]
 fn what_there_is_to_know_about_a_sitting() {
     let elsewhere = |name: &str, rows: usize, state: &str| {
-        let program = format!("env XDG_STATE_HOME={state} {} candidate --to 127.0.0.1:9", env!("CARGO_BIN_EXE_screens"));
+        let (screens, key) = (env!("CARGO_BIN_EXE_screens"), key().display());
+        let program = format!("env XDG_STATE_HOME={state} {screens} candidate --to 127.0.0.1:9 --key {key}");
         Pane::start(name, COLS, rows, &program)
     };
     // No folder can be made under a file: two notices, and no room but with the row of help.
@@ -91,7 +97,7 @@ fn what_there_is_to_know_about_a_sitting() {
     // The path is longer than a row, and no letter of it is lost.
     let folder = Folder::new(&"long-".repeat(20));
     let state = folder.0.to_str().unwrap();
-    let first = elsewhere("first", ROWS + 9, state);
+    let first = elsewhere("first-known", ROWS + 9, state);
     let shown = first.wait_for("is the first one known here: one used before may be larger");
     let after = shown.lines.iter().skip_while(|line| !line.contains("is the first one known here")).skip(1);
     let why: String = after.map(|line| line.trim()).collect();
@@ -100,7 +106,7 @@ fn what_there_is_to_know_about_a_sitting() {
 
 #[test]
 fn too_small_for_a_screen() {
-    let invigilator = Pane::screens("small", 60, 20, "invigilator --listen 127.0.0.1:0");
+    let invigilator = Pane::over_udp("small", 60, 20, "invigilator --listen 127.0.0.1:0");
     invigilator.wait_for("The terminal is too small");
     invigilator.resize(80, 30);
     invigilator.wait_for("WAITING for a candidate");

@@ -25,18 +25,28 @@ impl fmt::Display for Faults {
 /// Held back are at most so many; any of them may come next.
 const HELD: usize = 16;
 
-pub struct Line {
+/// How many datagrams, how many bytes, and the longest.
+#[derive(Clone, Copy, PartialEq, Eq, Default, Debug)]
+pub struct Passed {
+    pub datagrams: u64,
+    pub bytes: u64,
+    pub longest: usize,
+}
+
+pub struct BadLine {
     pub faults: Faults,
     /// Nothing passes.
     pub cut: bool,
     pub lost: u64,
+    /// What has passed.
+    pub passed: Passed,
     held: Vec<Vec<u8>>,
     random: Rand32,
 }
 
-impl Line {
+impl BadLine {
     pub fn new(faults: Faults, seed: u64) -> Self {
-        Self { faults, cut: false, lost: 0, held: Vec::new(), random: Rand32::new(seed) }
+        Self { faults, cut: false, lost: 0, passed: Passed::default(), held: Vec::new(), random: Rand32::new(seed) }
     }
 
     /// Sends a datagram; those that arrive now, in their order.
@@ -49,6 +59,7 @@ impl Line {
             } else if self.happens(self.faults.reorder) {
                 self.held.push(datagram.clone());
             } else {
+                self.passes(&datagram);
                 arriving.push(datagram.clone());
             }
         }
@@ -64,7 +75,14 @@ impl Line {
             return None;
         }
         let next = self.random.rand_range(0..self.held.len() as u32);
-        Some(self.held.swap_remove(next as usize))
+        let released = self.held.swap_remove(next as usize);
+        self.passes(&released);
+        Some(released)
+    }
+
+    fn passes(&mut self, datagram: &[u8]) {
+        let Passed { datagrams, bytes, longest } = self.passed;
+        self.passed = Passed { datagrams: datagrams + 1, bytes: bytes + datagram.len() as u64, longest: longest.max(datagram.len()) };
     }
 
     pub fn held(&self) -> usize {
@@ -87,7 +105,7 @@ mod tests {
 
     /// How many of 1,000 datagrams come out, and whether in their order, when all that is held is released at the end.
     fn passed(faults: Faults) -> (usize, bool) {
-        let mut line = Line::new(faults, 7);
+        let mut line = BadLine::new(faults, 7);
         let mut out: Vec<Vec<u8>> = (0..1000u32).flat_map(|n| line.send(n.to_be_bytes().to_vec())).collect();
         while let Some(released) = line.release() {
             out.push(released);
@@ -107,7 +125,7 @@ mod tests {
 
     #[test]
     fn a_cut_line_passes_nothing() {
-        let mut line = Line::new(Faults { reorder: 100, ..Faults::default() }, 7);
+        let mut line = BadLine::new(Faults { reorder: 100, ..Faults::default() }, 7);
         line.send(vec![1]);
         line.cut = true;
         assert_eq!((line.send(vec![2]), line.release(), line.lost, line.held()), (vec![], None, 1, 1));
