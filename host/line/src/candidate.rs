@@ -1,6 +1,6 @@
 //! The candidate's end: what it says, and when. Bytes come in and go out, and the time comes in; the screen is its owner's.
 use crate::echoes::{Echoes, Sent};
-use crate::message::{Piece, Question, Said};
+use crate::message::{Mark, Piece, Question, Said};
 use crate::pieces::Cutter;
 use crate::seal::{End, Opener, Sealer, SharedKey};
 use futonrobin::{Kind, Pair, Report, Screen, Shown};
@@ -56,7 +56,7 @@ impl Candidate {
     }
 
     /// Something came. What does not open is garbage. A question that echoes no datagram of this start is of another time; one that is no later than
-    /// one before of its start says nothing.
+    /// one before of its start, or echoes an earlier datagram than those of four other starts, says nothing.
     pub fn receive(&mut self, datagram: &[u8]) {
         let opened = self.opener.open(datagram).and_then(|opened| Some((Question::read(&opened.body)?, opened)));
         let Some((question, opened)) = opened else {
@@ -64,7 +64,8 @@ impl Candidate {
             return;
         };
         let own = question.echo.start == self.sealer.start() && question.echo.counter < self.sealer.next();
-        if !own || !self.echoes.hear(opened.start, opened.counter) {
+        let asked = Mark { start: opened.start, counter: opened.counter };
+        if !own || !self.echoes.hear(asked, question.echo.counter) {
             return;
         }
         self.unanswered = Some(question);
@@ -120,7 +121,7 @@ impl Candidate {
     fn say(&mut self, screen: &Screen, piece: Option<Piece>, now: Instant) -> Vec<u8> {
         self.unanswered = None;
         self.sent.send(self.sealer.next(), now);
-        self.sealer.seal(&Said { pair: screen.pair(), echoes: self.echoes.all().to_vec(), piece }.write())
+        self.sealer.seal(&Said { pair: screen.pair(), echoes: self.echoes.all(), piece }.write())
     }
 
     fn full_is_due(&self, now: Instant) -> bool {
@@ -144,7 +145,6 @@ impl Candidate {
 #[cfg(test)]
 mod tests {
     use super::*;
-    use crate::message::Mark;
     use crate::seal::Start;
 
     /// A candidate in sitting 7, and what the other end needs to speak with it.

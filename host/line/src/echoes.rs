@@ -1,31 +1,41 @@
 //! What the two ends remember for echoes: the candidate the last question of each start that it heard, to echo it; and both when they sent what.
 use crate::message::{Mark, ECHOES};
-use crate::seal::Start;
 use std::collections::VecDeque;
 use std::time::Instant;
 
 /// The questions that a candidate has heard: of each of the last few starts the one with the largest counter.
+///
+/// Which starts are the last is told by the candidate's own datagrams that their questions echo, not by when the questions come: anybody can send one
+/// again, and recorded ones of earlier starts could else push that of the true one out, again and again.
 #[derive(Default)]
 pub struct Echoes {
-    /// The start that was heard last comes first.
-    heard: Vec<Mark>,
+    /// The one that echoes the latest datagram comes first.
+    heard: Vec<Heard>,
+}
+
+struct Heard {
+    question: Mark,
+    /// The counter of the own datagram that it echoes.
+    own: u64,
 }
 
 impl Echoes {
-    /// A question came; whether it is later than all of its start that are remembered.
-    pub fn hear(&mut self, start: Start, counter: u64) -> bool {
-        let known = self.heard.iter().position(|echo| echo.start == start);
-        if known.is_some_and(|at| self.heard[at].counter >= counter) {
+    /// A question came that echoes the own datagram with this counter; whether it is later than all of its start that are remembered, and of one of
+    /// the last few starts.
+    pub fn hear(&mut self, question: Mark, own: u64) -> bool {
+        let known = self.heard.iter().position(|heard| heard.question.start == question.start);
+        if known.is_some_and(|at| self.heard[at].question.counter >= question.counter) {
             return false;
         }
         known.map(|at| self.heard.remove(at));
-        self.heard.insert(0, Mark { start, counter });
+        let at = self.heard.partition_point(|heard| heard.own > own);
+        self.heard.insert(at, Heard { question, own });
         self.heard.truncate(ECHOES);
-        true
+        at < ECHOES
     }
 
-    pub fn all(&self) -> &[Mark] {
-        &self.heard
+    pub fn all(&self) -> Vec<Mark> {
+        self.heard.iter().map(|heard| heard.question).collect()
     }
 }
 
@@ -60,24 +70,39 @@ impl Sent {
 #[cfg(test)]
 mod tests {
     use super::*;
+    use crate::seal::Start;
     use std::time::Duration;
 
-    fn start(n: u8) -> Start {
-        Start::from_bytes([n; 16])
+    fn question(start: u8, counter: u64) -> Mark {
+        Mark { start: Start::from_bytes([start; 16]), counter }
+    }
+
+    fn heard(echoes: &Echoes) -> Vec<(u8, u64)> {
+        echoes.all().iter().map(|echo| (echo.start.bytes()[0], echo.counter)).collect()
     }
 
     #[test]
     fn the_largest_counter_of_the_last_four_starts() {
         let mut echoes = Echoes::default();
-        assert!(echoes.hear(start(1), 7) && echoes.hear(start(1), 9));
-        assert!(!echoes.hear(start(1), 9) && !echoes.hear(start(1), 8), "a repeated or late question");
+        assert!(echoes.hear(question(1, 7), 0) && echoes.hear(question(1, 9), 1));
+        assert!(!echoes.hear(question(1, 9), 1) && !echoes.hear(question(1, 8), 1), "a repeated or late question");
         for n in 2..=4 {
-            assert!(echoes.hear(start(n), 0));
+            assert!(echoes.hear(question(n, 0), n.into()));
         }
-        assert!(echoes.hear(start(1), 10), "heard again, it is the last one");
-        assert!(echoes.hear(start(5), 0));
-        let heard: Vec<_> = echoes.all().iter().map(|echo| (echo.start.bytes()[0], echo.counter)).collect();
-        assert_eq!(heard, [(5, 0), (1, 10), (4, 0), (3, 0)], "2 was heard longest ago");
+        assert!(echoes.hear(question(1, 10), 5), "heard again, it is the last one");
+        assert!(echoes.hear(question(5, 0), 5), "two have heard the same");
+        assert_eq!(heard(&echoes), [(5, 0), (1, 10), (4, 0), (3, 0)], "2 was heard longest ago");
+    }
+
+    #[test]
+    fn a_question_of_an_earlier_start_pushes_no_later_one_out() {
+        let mut echoes = Echoes::default();
+        (1..=5).for_each(|n| assert!(echoes.hear(question(n, 0), n.into())));
+        assert!(!echoes.hear(question(1, 0), 1), "it is sent again");
+        assert!(!echoes.hear(question(1, 1), 1), "or was never heard");
+        assert_eq!(heard(&echoes), [(5, 0), (4, 0), (3, 0), (2, 0)]);
+        assert!(echoes.hear(question(6, 0), 3), "a slow line: what it has heard last is not the latest");
+        assert_eq!(heard(&echoes), [(5, 0), (4, 0), (6, 0), (3, 0)]);
     }
 
     #[test]

@@ -1,5 +1,6 @@
 //! The invigilator's mirror, which follows the candidate from sitting to sitting.
 use crate::fresh::{Fresh, State};
+use crate::seal::Start;
 use crate::sittings::Sittings;
 use futonrobin::{Mirror, Pair, Refusal, Report, Shown};
 use std::time::{Duration, Instant};
@@ -22,10 +23,15 @@ impl Follower {
         }
     }
 
-    /// A report of a sitting whose new screen had this width. The pair that it reports, unless it is none or the mirror refuses it.
-    pub(crate) fn report(&mut self, width: u8, report: &[u8]) -> Result<Pair, Refusal> {
+    /// Whether what is kept of this sitting is another start's.
+    pub(crate) fn is_anothers(&self, sitting: u32, start: Start) -> bool {
+        self.sittings.is_anothers(sitting, start)
+    }
+
+    /// A report of this start, whose new screen had this width. The pair that it reports, unless it is none or the mirror refuses it.
+    pub(crate) fn report(&mut self, start: Start, width: u8, report: &[u8]) -> Result<Pair, Refusal> {
         let report = Report::from_bytes(report)?;
-        self.sittings.arrive(width.into(), &report)?;
+        self.sittings.arrive(start, width.into(), &report)?;
         let mirror = self.mirror.get_or_insert_with(|| Mirror::new(width.into(), report.sitting()));
         mirror.arrive(&report)?;
         let shown = mirror.pair();
@@ -84,6 +90,8 @@ mod tests {
     use super::*;
     use futonrobin::Screen;
 
+    const START: Start = Start::from_bytes([1; 16]);
+
     fn typed(text: &[u8], width: u32, sitting: u32) -> Screen {
         let mut screen = Screen::new(width, sitting);
         text.iter().for_each(|&ch| screen.type_char(ch).unwrap());
@@ -92,11 +100,11 @@ mod tests {
 
     /// A full report of a screen of 40 columns on which that was typed.
     fn full(follower: &mut Follower, text: &[u8], sitting: u32) -> Result<Pair, Refusal> {
-        follower.report(40, typed(text, 40, sitting).report_full().as_bytes())
+        follower.report(START, 40, typed(text, 40, sitting).report_full().as_bytes())
     }
 
     fn step(follower: &mut Follower, text: &[u8], sitting: u32) -> Result<Pair, Refusal> {
-        follower.report(40, typed(text, 40, sitting).report_step().as_bytes())
+        follower.report(START, 40, typed(text, 40, sitting).report_step().as_bytes())
     }
 
     fn text(follower: &Follower) -> Vec<u8> {
@@ -111,13 +119,13 @@ mod tests {
     fn what_is_no_report_or_refused_is_never_first() {
         let (mut follower, report) = (Follower::default(), typed(b"A", 40, 5).report_full());
         for bytes in [&b""[..], b"garbage", &report.as_bytes()[1..]] {
-            assert!(follower.report(40, bytes).is_err());
+            assert!(follower.report(START, 40, bytes).is_err());
         }
         // A step of a screen of 80 columns, said to have begun with 40.
-        assert_eq!(follower.report(40, typed(b"A", 80, 5).report_step().as_bytes()), Err(Refusal::WidthWithoutRows));
+        assert_eq!(follower.report(START, 40, typed(b"A", 80, 5).report_step().as_bytes()), Err(Refusal::WidthWithoutRows));
         assert_eq!((follower.shown(), follower.heard(), follower.sittings()), (None, None, (0, 0)));
         let pair = Pair { sitting: 5, serial: 1 };
-        assert_eq!(follower.report(40, report.as_bytes()), Ok(pair));
+        assert_eq!(follower.report(START, 40, report.as_bytes()), Ok(pair));
         assert_eq!((follower.shown(), follower.heard(), follower.sittings()), (Some(pair), Some(pair), (1, 1)));
     }
 
@@ -163,10 +171,10 @@ mod tests {
     fn the_width_of_another_sitting() {
         let mut follower = Follower::default();
         full(&mut follower, b"A", 5).unwrap();
-        follower.report(80, typed(b"", 80, 6).report_full().as_bytes()).unwrap();
+        follower.report(START, 80, typed(b"", 80, 6).report_full().as_bytes()).unwrap();
         assert_eq!((follower.mirror().unwrap().width(), follower.width_of(5), follower.width_of(6)), (80, Some(40), Some(80)));
         // A step of 80 columns whose sitting is said to have begun with 40.
-        assert!(follower.report(40, typed(b"A", 80, 7).report_step().as_bytes()).is_err());
+        assert!(follower.report(START, 40, typed(b"A", 80, 7).report_step().as_bytes()).is_err());
         assert_eq!((follower.heard(), follower.sittings()), (Some(Pair { sitting: 6, serial: 0 }), (2, 2)));
     }
 

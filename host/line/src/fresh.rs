@@ -126,8 +126,16 @@ impl State {
         matches!(self, State::Shows { behind: 0, age: Some(age), .. } if tenths(*age) < tenths(LEVEL_UNDER))
     }
 
+    /// How long nothing came that was later than all before; `None` before anything came.
+    pub fn quiet(&self) -> Option<Duration> {
+        match self {
+            State::Waiting => None,
+            State::Begun { quiet, .. } | State::Shows { quiet, .. } => Some(*quiet),
+        }
+    }
+
     pub fn is_silent(&self) -> bool {
-        matches!(self, State::Begun { quiet, .. } | State::Shows { quiet, .. } if *quiet >= SILENT_AFTER)
+        self.quiet().is_some_and(|quiet| quiet >= SILENT_AFTER)
     }
 }
 
@@ -139,12 +147,7 @@ impl fmt::Display for State {
             State::Shows { age: Some(age), .. } if self.is_level() => return write!(f, "LEVEL, {}", seconds(*age)),
             _ => {}
         }
-        let silent = match self {
-            State::Begun { quiet, .. } | State::Shows { quiet, .. } if self.is_silent() => {
-                Some(format!("SILENT for {} s", quiet.as_secs()))
-            }
-            _ => None,
-        };
+        let silent = self.quiet().filter(|_| self.is_silent()).map(|quiet| format!("SILENT for {} s", quiet.as_secs()));
         let place = match self {
             State::Begun { sitting, .. } => Some(format!("BEGUN: sitting {sitting}")),
             State::Shows { behind: 0, .. } => silent.is_none().then(|| "OLD".to_string()),

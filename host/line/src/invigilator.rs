@@ -4,7 +4,7 @@ use crate::follower::Follower;
 use crate::message::{Mark, Question, Said};
 use crate::pieces::{Joined, Joiner};
 use crate::places::{Place, Places};
-use crate::seal::{End, Opened, Opener, Sealer, SharedKey};
+use crate::seal::{End, Opened, Opener, Sealer, SharedKey, Start};
 use futonrobin::Pair;
 use std::net::SocketAddr;
 use std::time::{Duration, Instant};
@@ -79,7 +79,7 @@ impl Invigilator {
 
     fn take(&mut self, opened: &Opened, from: SocketAddr, now: Instant) -> Option<Taken> {
         let (said, datagram) = (Said::read(&opened.body)?, Mark { start: opened.start, counter: opened.counter });
-        if self.places.is_anothers(said.pair.sitting, opened.start) {
+        if self.is_anothers(said.pair.sitting, opened.start) {
             return Some(Taken::Twice);
         }
         // An echo counts only if this very start asked that question.
@@ -89,9 +89,14 @@ impl Invigilator {
         self.follower.hears(said.pair, asked, new.then_some(now));
         let Some(piece) = said.piece else { return Some(Taken::Sign) };
         let Joined::Whole(width, report) = self.joiner.piece(opened.start, opened.counter, piece)? else { return Some(Taken::Piece) };
-        let reported = [40, 80].contains(&width).then(|| self.follower.report(width, &report))?.ok()?;
+        let reported = [40, 80].contains(&width).then(|| self.follower.report(opened.start, width, &report))?.ok()?;
         let newest = self.follower.heard().is_none_or(|heard| heard.sitting == reported.sitting);
         Some(if newest { Taken::Arrived } else { Taken::Older })
+    }
+
+    /// Whether something is kept of this sitting, and that is another start's: where it is, or its last screen.
+    fn is_anothers(&self, sitting: u32, start: Start) -> bool {
+        self.places.is_anothers(sitting, start) || self.follower.is_anothers(sitting, start)
     }
 
     /// The questions that are due, and where they go; none while nobody is heard.

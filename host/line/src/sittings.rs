@@ -1,5 +1,6 @@
 //! The sittings that were heard of, each with a mirror of its own, which gets the reports of that sitting alone. The mirror that follows the
 //! candidate leaves an earlier sitting for good; here its last screen stays, and reports of it that come late still count.
+use crate::seal::Start;
 use futonrobin::{Mirror, Refusal, Report, Shown};
 
 /// So many are kept, so that nobody who sends numbers can fill the memory.
@@ -19,20 +20,27 @@ pub struct Sittings {
 }
 
 struct Sitting {
+    /// The start whose reports these are.
+    start: Start,
     /// Of its new screen.
     width: u32,
     mirror: Mirror,
 }
 
 impl Sittings {
-    /// A report arrives at the mirror of its sitting, which begins at this width if it is the first one.
-    pub fn arrive(&mut self, width: u32, report: &Report) -> Result<(), Refusal> {
+    /// Whether what is kept of this sitting is another start's.
+    pub fn is_anothers(&self, number: u32, start: Start) -> bool {
+        self.place(number).is_ok_and(|at| self.kept[at].start != start)
+    }
+
+    /// A report of this start arrives at the mirror of its sitting, which begins at this width if it is the first one.
+    pub fn arrive(&mut self, start: Start, width: u32, report: &Report) -> Result<(), Refusal> {
         match self.place(report.sitting()) {
             Ok(at) => self.kept[at].mirror.arrive(report).map(drop),
             Err(at) => {
                 let mut mirror = Mirror::new(width, report.sitting());
                 mirror.arrive(report)?;
-                self.kept.insert(at, Sitting { width, mirror });
+                self.kept.insert(at, Sitting { start, width, mirror });
                 // A smaller one than one that is gone may be gone itself, and was counted then.
                 self.count += (Some(report.sitting()) > self.gone) as usize;
                 Ok(())
@@ -79,16 +87,18 @@ mod tests {
     use super::*;
     use futonrobin::Screen;
 
+    const START: Start = Start::from_bytes([1; 16]);
+
     #[test]
     fn each_sitting_has_its_own_last_screen() {
         let (mut sittings, mut first, mut second) = (Sittings::default(), Screen::new(40, 5), Screen::new(80, 9));
         first.print_bytes(b"FIRST").unwrap();
-        sittings.arrive(40, &first.report_step()).unwrap();
+        sittings.arrive(START, 40, &first.report_step()).unwrap();
         second.print_bytes(b"SECOND").unwrap();
-        sittings.arrive(80, &second.report_step()).unwrap();
+        sittings.arrive(START, 80, &second.report_step()).unwrap();
         // Late, and applied nevertheless.
         first.print_bytes(b", TO THE END").unwrap();
-        sittings.arrive(40, &first.report_step()).unwrap();
+        sittings.arrive(START, 40, &first.report_step()).unwrap();
         assert_eq!(sittings.before(9).map(|mirror| mirror.snapshot()).collect::<Vec<_>>(), [b"FIRST, TO THE END"]);
         assert_eq!(sittings.before(10).next_back().unwrap().snapshot(), b"SECOND");
         assert_eq!((sittings.width(5), sittings.width(9), sittings.width(6), sittings.count), (Some(40), Some(80), None, 2));
@@ -98,13 +108,20 @@ mod tests {
     fn what_contradicts_its_width_begins_nothing() {
         let (mut sittings, mut screen) = (Sittings::default(), Screen::new(80, 5));
         screen.type_char(b'A').unwrap();
-        assert_eq!(sittings.arrive(40, &screen.report_step()), Err(Refusal::WidthWithoutRows));
+        assert_eq!(sittings.arrive(START, 40, &screen.report_step()), Err(Refusal::WidthWithoutRows));
         assert_eq!((sittings.kept(), sittings.count), (0, 0));
+    }
+
+    #[test]
+    fn what_is_kept_is_of_one_start() {
+        let (mut sittings, other) = (Sittings::default(), Start::from_bytes([2; 16]));
+        sittings.arrive(START, 40, &Screen::new(40, 5).report_full()).unwrap();
+        assert_eq!([(5, START), (5, other), (6, other)].map(|(number, start)| sittings.is_anothers(number, start)), [false, true, false]);
     }
 
     /// A full report of this sitting comes, and then that one is shown; how many are kept, and how many were counted.
     fn hear(sittings: &mut Sittings, number: u32, shown: u32) -> (usize, usize) {
-        sittings.arrive(40, &Screen::new(40, number).report_full()).unwrap();
+        sittings.arrive(START, 40, &Screen::new(40, number).report_full()).unwrap();
         sittings.make_room(shown);
         (sittings.kept(), sittings.count)
     }

@@ -251,8 +251,6 @@ impl Line {
         } else {
             self.invigilator = Invigilator::new(&self.shared);
             self.garbage.1 = 0;
-            // A candidate that has heard four later starts would take a question of this one for a new one.
-            self.asked.pool.clear();
         }
         self.exchange();
     }

@@ -278,6 +278,10 @@ mod tests {
         invigilator.receive(&sent[0], candidate.to, now);
         candidate.end.receive(&invigilator.ask(now)[0].1);
         assert_eq!((told(&candidate).as_str(), candidate.is_shown()), ("invigilator shows 0, heard 2.5 s ago", true));
+        candidate.clock.slept(Duration::from_secs(3_600));
+        candidate.pass().unwrap();
+        candidate.problem = None;
+        assert!(told(&candidate).starts_with("invigilator shows 0, heard 360"), "{}", told(&candidate));
         candidate.press(Key::Char(b'A')).unwrap();
         assert!(!candidate.is_shown());
     }

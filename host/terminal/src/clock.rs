@@ -27,6 +27,12 @@ impl Clock {
         self.forward += Some(by_calendar.saturating_sub(passed)).filter(|more| *more > APART).unwrap_or_default();
         steady + self.forward
     }
+
+    /// The machine has slept for so long, with a steady clock that stood still.
+    #[cfg(test)]
+    pub fn slept(&mut self, time: Duration) {
+        self.last.1 -= time;
+    }
 }
 
 impl Default for Clock {

@@ -257,6 +257,19 @@ mod tests {
     }
 
     #[test]
+    fn a_machine_that_slept_wakes_with_an_old_screen() {
+        let mut halves = Halves::new(40, Faults::default(), 1, Instant::now());
+        let first = halves.full();
+        halves.arrive(first);
+        halves.tick().unwrap();
+        assert!(shown(&halves, 26, 41).starts_with("LEVEL, 0."));
+        halves.turn(Input::Cut);
+        halves.clock.slept(Duration::from_secs(3_600));
+        halves.tick().unwrap();
+        assert_eq!(shown(&halves, 26, 41), "SILENT for 3600 s");
+    }
+
+    #[test]
     fn a_cut_line_is_cut_both_ways() {
         let mut halves = Halves::new(40, Faults::default(), 1, Instant::now());
         halves.turn(Input::Cut);

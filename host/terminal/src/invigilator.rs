@@ -19,7 +19,7 @@ use std::time::{Duration, Instant};
 const NEEDED: Size = Size { cols: 80, rows: 25 + 4 };
 const HELP: &str = "Ctrl-Q leaves; PageUp shows the last screen of the sitting before";
 
-/// With keys from a file: how long to wait for the first datagram, and for a next one when the last screen is shown.
+/// With keys from a file: how long to wait for something new, and for that when the last screen is shown.
 const PATIENCE: Duration = Duration::from_secs(30);
 const LAST: Duration = Duration::from_millis(500);
 
@@ -40,14 +40,12 @@ impl Invigilator {
         Ok(Self { end: line::Invigilator::new(shared), view: View::default(), socket, listen, table: KeyTable::standard(), clock, now })
     }
 
-    /// Takes what has come, hands on each report with where it came from, and asks; whether anything opened.
-    fn pass(&mut self, mut arrived: impl FnMut(&Follower, SocketAddr)) -> io::Result<bool> {
+    /// Takes what has come, hands on each report with where it came from, and asks.
+    fn pass(&mut self, mut arrived: impl FnMut(&Follower, SocketAddr)) -> io::Result<()> {
         self.now = self.clock.now();
-        let (end, now, mut opened) = (&mut self.end, self.now, false);
+        let (end, now) = (&mut self.end, self.now);
         drain(&self.socket, |bytes, from| {
-            let taken = end.receive(bytes, from, now);
-            opened |= taken != Taken::Garbage;
-            if [Taken::Arrived, Taken::Older].contains(&taken) {
+            if [Taken::Arrived, Taken::Older].contains(&end.receive(bytes, from, now)) {
                 arrived(&end.follower, from);
             }
         })?;
@@ -57,7 +55,7 @@ impl Invigilator {
             // One that is lost is asked again.
             let _ = self.socket.send_to(&question, to);
         }
-        Ok(opened)
+        Ok(())
     }
 
     fn paint(&self, canvas: &mut Canvas) {
@@ -80,14 +78,14 @@ impl Invigilator {
 
     fn counts(&self) -> String {
         let Counts { arrived, older, twice, garbage } = self.end.counts;
-        let twice = if twice > 0 { format!(", SITTING USED TWICE {twice}") } else { String::new() };
-        format!("arrived {arrived}, older {older}, garbage {garbage}{twice}")
+        let twice = if twice > 0 { format!("SITTING USED TWICE {twice}, ") } else { String::new() };
+        format!("{twice}arrived {arrived}, older {older}, garbage {garbage}")
     }
 }
 
 impl Program for Invigilator {
     fn tick(&mut self) -> io::Result<()> {
-        self.pass(|_, _| ()).map(drop)
+        self.pass(|_, _| ())
     }
 
     fn canvas(&self, size: Size) -> Canvas {
@@ -111,15 +109,14 @@ pub fn in_terminal(listen: SocketAddr, shared: &SharedKey) -> io::Result<()> {
 pub fn with_keys(listen: SocketAddr, shared: &SharedKey, keys: &[Key]) -> io::Result<bool> {
     let mut invigilator = Invigilator::new(listen, shared)?;
     println!("invigilator: listening on {}", invigilator.listen);
-    let (mut watch, mut heard) = (Watch::new(keys), Instant::now());
+    let (mut watch, begun) = (Watch::new(keys), Instant::now());
     loop {
-        if invigilator.pass(|follower, from| watch.arrival(follower, from))? {
-            heard = Instant::now();
-        }
+        invigilator.pass(|follower, from| watch.arrival(follower, from))?;
         let follower = &invigilator.end.follower;
-        watch.look(follower.state(invigilator.now));
+        let state = follower.state(invigilator.now);
+        watch.look(state);
         let ended = watch.witnesses.ended(follower);
-        if heard.elapsed() > if ended { LAST } else { PATIENCE } {
+        if state.quiet().unwrap_or(begun.elapsed()) > if ended { LAST } else { PATIENCE } {
             println!("invigilator: {}, level after {} of them", invigilator.counts(), watch.level);
             return Ok(watch.verdict(follower, ended));
         }
@@ -252,6 +249,20 @@ mod tests {
         assert_eq!(rows(&mut invigilator, Duration::from_secs(4)), expected);
         let silent = rows(&mut invigilator, Duration::from_secs(9_999_999));
         assert_eq!(silent[0], "INVIGILATOR  sitting 4294967294  SILENT for 9999999 s, BEGUN: sitting 4294967295");
+        invigilator.end.counts.twice = 9_999;
+        let twice = "older sitting 4294967294 heard 4.0 s ago  SITTING USED TWICE 9999, arrived 1234…";
+        assert_eq!(rows(&mut invigilator, Duration::from_secs(4))[2], twice);
+    }
+
+    #[test]
+    fn a_machine_that_slept_wakes_with_an_old_screen() {
+        let (mut invigilator, mut candidates) = listening();
+        let now = invigilator.now;
+        candidates.full(&mut invigilator.end, &screen(5, 3), now);
+        invigilator.clock.slept(Duration::from_secs(3_600));
+        invigilator.tick().unwrap();
+        let [first, second, ..] = rows(&mut invigilator, Duration::ZERO);
+        assert!(first.ends_with("SILENT for 3600 s") && second.starts_with("the screen of 360"), "{first}; {second}");
     }
 
     #[test]
@@ -265,7 +276,7 @@ mod tests {
         invigilator.input(Input::Back, NEEDED);
         let expected = [
             "NOT CURRENT: sitting 4294967294  call 4294967295 of 4294967295",
-            "now BEHIND by 3294967295, the screen of 0.0 s ago  sitting 4294967295  m 100000…",
+            "now BEHIND by 3294967295  the screen of 0.0 s ago  sitting 4294967295  m 100000…",
             "arrived 3, older 0, garbage 0",
             HELP_BACK,
         ];

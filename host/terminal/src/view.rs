@@ -47,23 +47,20 @@ impl View {
     }
 
     /// What stands under the title: at the mirror its state, its age with its calls, and how many sittings there were; at an earlier screen its
-    /// calls, then state with age and calls of the mirror, which goes on. In either case an older sitting that is still there.
+    /// calls, then these of the mirror, which goes on. In either case an older sitting that is still there.
     ///
     /// Half a terminal has 40 columns for each, which is enough but for numbers that nobody meets.
     pub fn lines(&self, follower: &Follower, now: Instant) -> [(String, u8); 4] {
         let (state, age, calls) = (follower.state(now), follower.of_when(now), calls(follower, now));
         let emphasis = if state.is_level() { PLAIN } else { STRONG };
         let older = (older(follower, now), STRONG);
+        let with_age = |calls: String| if age.is_empty() { calls } else { format!("{age}  {calls}") };
         match self.earlier(follower) {
-            None => {
-                let calls = if age.is_empty() { calls } else { format!("{age}  {calls}") };
-                [(state.to_string(), emphasis), (calls, emphasis), (how_many(follower), PLAIN), older]
-            }
+            None => [(state.to_string(), emphasis), (with_age(calls), emphasis), (how_many(follower), PLAIN), older],
             Some(earlier) => {
                 let current = follower.shown().filter(|shown| follower.heard().is_some_and(|heard| heard.sitting == shown.sitting));
                 let of = current.map_or(String::new(), |shown| format!("sitting {}  ", shown.sitting));
-                let now = if age.is_empty() { format!("now {state}") } else { format!("now {state}, {age}") };
-                [(calls_of(earlier), PLAIN), (now, emphasis), (of + &calls, emphasis), older]
+                [(calls_of(earlier), PLAIN), (format!("now {state}"), emphasis), (with_age(of + &calls), emphasis), older]
             }
         }
     }
@@ -232,14 +229,11 @@ mod tests {
         view.back(&follower);
         assert_eq!(view.title(&follower).0, "NOT CURRENT: sitting 4294967293");
         let shown = lines(&view, &follower, now).map(|line| fitting(&line, HALF));
-        // Only where both calls have more than seven digits they are cut, and seen to be cut.
-        assert_eq!(
-            shown,
-            ["call 4294967295 of 4294967295", "now BEHIND by 3294967295, the screen of…", "sitting 4294967294  m 1000000000  n 429…", ""]
-        );
+        // Sitting and calls are cut, and seen to be cut; the age never is.
+        assert_eq!(shown, ["call 4294967295 of 4294967295", "now BEHIND by 3294967295", "the screen of 0.0 s ago  sitting 429496…", ""]);
         let follower = with_largest(Some((LAST, 1)), Some((LAST - 2, LAST)), now);
         let begun =
-            ["now BEGUN: sitting 4294967295, the screen of 0.0 s ago", "no full report", "older sitting 4294967293 heard 0.0 s ago"];
+            ["now BEGUN: sitting 4294967295", "the screen of 0.0 s ago  no full report", "older sitting 4294967293 heard 0.0 s ago"];
         assert_eq!(lines(&view, &follower, now)[1..], begun);
     }
 }

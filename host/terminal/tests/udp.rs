@@ -87,6 +87,13 @@ impl Invigilator {
     }
 }
 
+/// A test that fails leaves no program behind.
+impl Drop for Invigilator {
+    fn drop(&mut self) {
+        let _ = self.program.kill();
+    }
+}
+
 /// Stretches in which two of three are characters and the others any named key; in turn with such as fill the screen with characters, so that a
 /// full report does not fit into one datagram.
 fn random_keys(seed: u64, count: usize) -> String {
@@ -194,6 +201,23 @@ fn a_candidate_killed_and_started_again_in_mid_run() {
     assert!(number_after(&report, "ended at call") >= (KEYS / 2) as u64);
     // Its last screen was compared with the keys too.
     assert!(number_after(&report, &format!("invigilator: kept sitting {sitting}, call")) > 0, "{report}");
+}
+
+#[test]
+fn a_last_datagram_that_is_sent_again_and_again_does_not_keep_the_invigilator_from_its_end() {
+    let (folder, typed) = (Folder::with_keys("sent-again", "BED 12"), b"BED 12");
+    let mut invigilator = Invigilator::start(&folder);
+    let (mut screen, now) = (Screen::new(80, 7), Instant::now());
+    typed.iter().for_each(|&ch| screen.type_char(ch).unwrap());
+    let last = line::Candidate::new(&folder.shared(), &screen, now).full(&screen, now).remove(0);
+    let socket = UdpSocket::bind("127.0.0.1:0").unwrap();
+    while invigilator.program.try_wait().unwrap().is_none() {
+        assert!(now.elapsed() < Duration::from_secs(20), "it goes on");
+        socket.send_to(&last, &invigilator.address).unwrap();
+        thread::sleep(Duration::from_millis(50));
+    }
+    let (held, rest) = invigilator.end();
+    assert!(held && rest.contains("invigilator: ended at call 6, wrong arrivals 0"), "{rest}");
 }
 
 #[test]

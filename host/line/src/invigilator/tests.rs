@@ -3,7 +3,6 @@ use crate::candidate::Candidate;
 use crate::fresh::State;
 use crate::message::Piece;
 use crate::pieces::Cutter;
-use crate::seal::Start;
 use futonrobin::{Pair, Report, Screen, Shown};
 
 struct Scene {
@@ -256,6 +255,60 @@ fn of_a_sitting_that_is_used_twice_the_second_start_is_counted_and_nothing_taken
     assert_eq!(scene.come(&again.full(10), 2, 10), [Taken::Twice]);
     assert_eq!((scene.said(10), scene.invigilator.counts.twice), ("LEVEL, 0.1 s".into(), 1));
     assert_eq!((scene.invigilator.follower.heard(), scene.invigilator.candidate_at()), (Some(pair(7, 0)), Some(address(1))));
+    let sign = scene.sealed(&Said { pair: pair(8, 0), echoes: vec![], piece: None }.write());
+    let mut seat = scene.seat(8);
+    assert_eq!((scene.come(&sign, 1, 20), scene.come(&seat.full(30), 2, 30)), (vec![Taken::Sign], vec![Taken::Twice]), "a sign came first");
+}
+
+#[test]
+fn nor_when_so_many_larger_sittings_were_heard_that_its_place_is_forgotten() {
+    let mut scene = Scene::new();
+    let (mut seat, mut again) = (scene.seat(7), scene.seat(7));
+    scene.come(&seat.press(0), 1, 0);
+    again.press(0);
+    let step = again.press(0);
+    for sitting in 8..20 {
+        let mut larger = scene.seat(sitting);
+        scene.come(&larger.full(0), 1, 0);
+        assert_eq!(scene.come(&step, 2, 0), [Taken::Twice]);
+    }
+    let mirror = scene.invigilator.follower.earlier().next().unwrap();
+    assert!(mirror.pair() == pair(7, 1) && mirror.same_as(&seat.screen), "its last screen is that of one start alone");
+}
+
+/// Some starts of an invigilator ask a candidate, one after the other, and what they asked is recorded.
+fn recorded_questions(scene: &Scene, seat: &mut Seat, starts: u64) -> Vec<Vec<u8>> {
+    let question = |n: u64| {
+        let mut earlier = Invigilator::new(&scene.shared);
+        earlier.receive(&seat.full(400 * n)[0], address(1), scene.at(400 * n));
+        let question = earlier.ask(scene.at(400 * n)).remove(0);
+        seat.answer(std::slice::from_ref(&question), 400 * n);
+        question.1
+    };
+    (0..starts).map(question).collect()
+}
+
+#[test]
+fn recorded_questions_of_earlier_starts_do_not_push_the_true_one_out() {
+    for starts in 3..8 {
+        let mut scene = Scene::new();
+        let mut seat = scene.seat(7);
+        let recorded = recorded_questions(&scene, &mut seat, starts);
+        let (begun, mut said) = (10_000, 0);
+        for n in 0..500 {
+            let millis = begun + 20 * n;
+            if n % 50 == 0 {
+                scene.come(&seat.press(millis), 1, millis);
+            }
+            // Right after each question all the recorded ones come again.
+            let questions: Vec<_> = scene.ask(millis).into_iter().chain(recorded.iter().map(|old| (address(1), old.clone()))).collect();
+            let answers = seat.answer(&questions, millis);
+            said += answers.len();
+            scene.come(&answers, 1, millis);
+            assert!(n < 5 || scene.said(millis).starts_with("LEVEL, 0."), "{} after {n} turns", scene.said(millis));
+        }
+        assert!(said <= 60, "{said} answers to 50 questions");
+    }
 }
 
 #[test]

@@ -15,7 +15,7 @@ use scene::{Scene, Tally};
 use std::time::Duration;
 
 const SCENES: u32 = 240;
-/// After so long on a good network, with no end restarted or moved, what is shown is level, or is so again after a moment.
+/// After so long on a network that holds nothing back, with no end restarted or moved, what is shown is level, or is so again after a moment.
 const CALM: Duration = Duration::from_secs(4);
 const MOMENT: Duration = Duration::from_millis(1_500);
 /// Where the candidate may be, and where it never is.

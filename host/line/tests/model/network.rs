@@ -6,6 +6,8 @@ use oorandom::Rand32;
 #[derive(Clone, Copy, PartialEq, Eq, Debug)]
 pub enum Network {
     Good,
+    /// All comes as on a good one, and much of it again.
+    Nagging,
     /// All is delayed by 20 seconds.
     Late,
     /// What the candidate says is.
@@ -22,7 +24,9 @@ pub enum Network {
 
 pub use Network::*;
 
-pub const NETWORKS: [Network; 8] = [Good, Late, HalfLate, Lossy, Shuffled, Narrow, Replayed, Hostile];
+pub const NETWORKS: [Network; 9] = [Good, Nagging, Late, HalfLate, Lossy, Shuffled, Narrow, Replayed, Hostile];
+/// Of these nothing is held back: what is shown is level.
+pub const HOLD_NOTHING: [Network; 2] = [Good, Nagging];
 
 impl Network {
     /// After how many milliseconds a datagram comes: never, once or twice.
@@ -50,7 +54,7 @@ impl Network {
     pub fn mischief(self) -> u32 {
         match self {
             Good => 0,
-            Replayed => 60,
+            Nagging | Replayed => 60,
             Hostile => 30,
             _ => 5,
         }

@@ -32,7 +32,7 @@ pub struct Scene<'a> {
     air: BTreeMap<(Instant, u64), (To, Datagram)>,
     sent: u64,
     recorded: Vec<Datagram>,
-    /// Until when the network was bad, or an end began again or moved.
+    /// Until when the network held something back, or an end began again or moved.
     uncalm: Instant,
     tally: &'a mut Tally,
 }
@@ -77,7 +77,7 @@ impl<'a> Scene<'a> {
     /// In so many ticks of a thousand an end begins again or moves.
     fn tick(&mut self, disturbed: u32) {
         self.now += Duration::from_millis(self.random.rand_range(1..20).into());
-        if self.network != Good {
+        if !HOLD_NOTHING.contains(&self.network) {
             self.uncalm = self.now;
         }
         if self.random.rand_range(0..1_000) < disturbed {
@@ -238,8 +238,10 @@ impl<'a> Scene<'a> {
         datagram.from = *pick(&[datagram.from, self.seat.address, address(STRANGER)], &mut self.random);
         let to_candidate = matches!(datagram.made, Made::ByInvigilator(_)) != back;
         let at = self.random.rand_range(0..self.watchers.len() as u32) as usize;
-        let (to, delay) =
-            (if to_candidate { To::Candidate(self.seat.address) } else { To::Invigilator(at) }, self.random.rand_range(0..50));
+        let to = if to_candidate { To::Candidate(self.seat.address) } else { To::Invigilator(at) };
+        // What comes before the datagram itself holds it back: it is the repeated one then.
+        let least = if HOLD_NOTHING.contains(&self.network) { self.usual } else { 0 };
+        let delay = least + self.random.rand_range(0..50);
         self.arrives(to, datagram, delay);
     }
 
@@ -280,7 +282,7 @@ impl<'a> Scene<'a> {
             if state.is_level() {
                 watcher.level = Some(self.now);
             }
-            assert!(!calm || watcher.level.is_some_and(|level| self.now - level < MOMENT), "{state} on a good network");
+            assert!(!calm || watcher.level.is_some_and(|level| self.now - level < MOMENT), "{state} although nothing is held back");
             let words = state.to_string();
             WORDS.iter().filter(|word| words.contains(**word)).for_each(|word| count(self.tally, word));
             count(

@@ -15,7 +15,7 @@ pub struct Seat {
     pub made: u64,
     /// As its first datagram tells it in clear.
     pub start: Option<Start>,
-    /// Of the last four starts the last question, the start that was heard last first.
+    /// Of the last four starts the last question. The start to which the latest of its datagrams came is first.
     pub heard: Vec<Asked>,
     pub garbage: u64,
 }
@@ -41,7 +41,7 @@ impl Seat {
             return;
         }
         self.heard.retain(|before| before.start != asked.start);
-        self.heard.insert(0, asked);
+        self.heard.insert(self.heard.partition_point(|before| before.after > asked.after), asked);
         self.heard.truncate(4);
     }
 

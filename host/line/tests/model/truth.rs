@@ -29,13 +29,14 @@ pub struct Truth {
     pub heard: Vec<Asked>,
 }
 
-/// A question: of which start, its number there, when it was asked, and which start of the candidate is asked.
+/// A question: of which start, its number there, when it was asked, which start of the candidate is asked, and which datagram of it came last.
 #[derive(Clone, Copy)]
 pub struct Asked {
     pub start: usize,
     pub counter: u64,
     pub at: Instant,
     pub whom: Start,
+    pub after: u64,
 }
 
 #[derive(Clone, Copy)]
@@ -67,5 +68,10 @@ impl History {
     /// Whether the candidate's screen had this pair at that moment or at one after it.
     pub fn had_since(&self, pair: Pair, since: Instant) -> bool {
         self.had.get(&pair).is_some_and(|(_, left)| left.is_none_or(|left| left >= since))
+    }
+
+    /// Whether its screen was of this sitting then.
+    pub fn sat_since(&self, sitting: u32, since: Instant) -> bool {
+        self.had.keys().any(|pair| pair.sitting == sitting && self.had_since(*pair, since))
     }
 }

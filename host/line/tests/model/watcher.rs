@@ -3,6 +3,7 @@ use crate::common::address;
 use crate::truth::{Asked, Datagram, History, Made, Truth};
 use crate::STRANGER;
 use futonrobin::Pair;
+use line::message::Mark;
 use line::seal::{End, Opener};
 use line::{Invigilator, Question, SharedKey, State, Taken};
 use std::collections::{BTreeMap, HashMap};
@@ -73,7 +74,8 @@ impl Watcher {
 
     fn question(&mut self, to: SocketAddr, bytes: Vec<u8>, now: Instant) -> Datagram {
         let question = self.opener.open(&bytes).and_then(|opened| Question::read(&opened.body)).expect("it asks questions");
-        let asked = Asked { start: self.start, counter: self.asked, at: now, whom: question.echo.start };
+        let Mark { start: whom, counter: after } = question.echo;
+        let asked = Asked { start: self.start, counter: self.asked, at: now, whom, after };
         self.asked += 1;
         self.came.entry(to).or_default().1 += 1;
         Datagram { bytes: bytes.into(), from: address(0), made: Made::ByInvigilator(asked) }
@@ -94,8 +96,24 @@ impl Watcher {
             assert!(history.had_since(shown, now - age), "{shown} is older than {age:?}");
             assert!(self.proved(shown) >= Some(now - age), "no echo that came proves that {shown} is as young as {age:?}");
         }
+        self.check_ages(history, now);
         self.check_words(state, now);
         self.check_youth(state, now);
+    }
+
+    /// In whatever state: what is said of the age of the screen, and of a smaller sitting; and the last screens of those before.
+    fn check_ages(&self, history: &History, now: Instant) {
+        let follower = &self.invigilator.follower;
+        let said = follower.of_when(now);
+        let seconds = said.strip_prefix("the screen of ").and_then(|said| said.strip_suffix(" s ago"));
+        if let (Some(seconds), Some(shown)) = (seconds, follower.shown()) {
+            let age = Duration::from_secs_f64(seconds.parse().expect("it is a number"));
+            assert!(now.checked_sub(age).is_none_or(|then| history.had_since(shown, then)), "{said}: {shown} is older");
+        }
+        if let Some((sitting, ago)) = follower.older_heard(now) {
+            assert!(history.sat_since(sitting, now - ago), "sitting {sitting} is told to have been there {ago:?} ago");
+        }
+        assert!(follower.earlier().all(|mirror| history.has(mirror)), "the candidate never had such a last screen");
     }
 
     /// When the latest question was asked after which the candidate's screen had this pair or a smaller one.
