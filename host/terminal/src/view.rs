@@ -49,7 +49,7 @@ impl View {
     /// What stands under the title: at the mirror its state, its age with its calls, and how many sittings there were; at an earlier screen its
     /// calls, then these of the mirror, which goes on. In either case an older sitting that is still there.
     ///
-    /// Half a terminal has 40 columns for each, which is enough but for numbers that nobody meets.
+    /// Half a terminal has 40 columns for each. Where that is not enough the end is cut, which is calls or a state's second word, and never the age.
     pub fn lines(&self, follower: &Follower, now: Instant) -> [(String, u8); 4] {
         let (state, age, calls) = (follower.state(now), follower.of_when(now), calls(follower, now));
         let emphasis = if state.is_level() { PLAIN } else { STRONG };
