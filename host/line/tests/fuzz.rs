@@ -45,9 +45,8 @@ enum Kind {
 
 use Kind::*;
 
-const TO_CANDIDATE: [Kind; 11] =
-    [Replayed, Damaged, Cut, Extended, Joined, SentBack, ForeignKey, Noise, NoiseWithFront, SealedNoise, SealedAndDamaged];
-const TO_INVIGILATOR: [Kind; 15] = [
+/// In the order above: up to `SealedAndDamaged` also for the candidate, the others have pieces, which only an invigilator takes.
+const KINDS: [Kind; 15] = [
     Replayed,
     Damaged,
     Cut,
@@ -256,7 +255,7 @@ impl Line {
     }
 
     fn to_candidate(&mut self) {
-        let (kind, random) = (*pick(&TO_CANDIDATE, &mut self.random), &mut self.random);
+        let (kind, random) = (*pick(&KINDS[..=SealedAndDamaged as usize], &mut self.random), &mut self.random);
         let datagram = match kind {
             Replayed => pick(&self.asked.pool, random).0.clone(),
             SentBack => pick(&self.said.pool, random).0.clone(),
@@ -272,7 +271,7 @@ impl Line {
     }
 
     fn to_invigilator(&mut self) {
-        let kind = *pick(&TO_INVIGILATOR, &mut self.random);
+        let kind = *pick(&KINDS, &mut self.random);
         let (datagram, from) = (self.for_invigilator(kind), address(self.random.rand_range(1..9)));
         self.said.renew(&self.shared, &mut self.random);
         let (before, kept) = (self.view(), (self.invigilator.keys_kept(), self.invigilator.halves_kept()));

@@ -312,6 +312,30 @@ fn recorded_questions_of_earlier_starts_do_not_push_the_true_one_out() {
 }
 
 #[test]
+fn copies_that_come_sooner_lead_the_questions_away_and_it_is_told_until_they_end() {
+    let mut scene = Scene::new();
+    let mut seat = scene.seat(7);
+    let raced = 1_000..9_000;
+    let mut questions = Vec::new();
+    for millis in (0..12_000).step_by(20) {
+        let typed = if millis % 1_000 == 0 { seat.press(millis) } else { vec![] };
+        let sent = [typed, seat.answer(&std::mem::take(&mut questions), millis)].concat();
+        if raced.contains(&millis) {
+            scene.come(&sent, 9, millis);
+        }
+        scene.come(&sent, 1, millis);
+        // Those that go elsewhere are not passed on.
+        questions = scene.ask(millis).into_iter().filter(|(to, _)| *to == address(1)).collect();
+        let said = scene.said(millis);
+        match millis {
+            200..1_000 | 11_000.. => assert!(said.starts_with("LEVEL, 0."), "{said} at {millis}"),
+            3_000..9_000 => assert!(said.contains("the screen of ") && !said.contains("LEVEL"), "{said} at {millis}"),
+            _ => {}
+        }
+    }
+}
+
+#[test]
 fn both_candidates_are_asked_and_the_smaller_one_is_known_to_be_there() {
     let mut scene = Scene::new();
     let (mut smaller, mut larger) = (scene.seat(7), scene.seat(8));

@@ -4,11 +4,11 @@ use crate::network::*;
 use crate::seat::Seat;
 use crate::truth::{Datagram, History, Made, To};
 use crate::watcher::Watcher;
-use crate::{CALM, HOMES, MOMENT, STRANGER, WORDS};
+use crate::{CALM, HOMES, MOMENT, RARE, STRANGER, WORDS};
 use futonrobin::{Pair, Screen, Shown};
 use line::message::{Mark, Said};
 use line::seal::{End, Sealer, Start};
-use line::{Question, SharedKey, Taken, LONGEST};
+use line::{Question, SharedKey, State, Taken, LONGEST};
 use oorandom::Rand32;
 use std::collections::{BTreeMap, HashMap};
 use std::time::{Duration, Instant};
@@ -283,6 +283,15 @@ impl<'a> Scene<'a> {
                 watcher.level = Some(self.now);
             }
             assert!(!calm || watcher.level.is_some_and(|level| self.now - level < MOMENT), "{state} although nothing is held back");
+            let follower = &watcher.invigilator.follower;
+            let begun_with_age = matches!(state, State::Begun { .. }) && follower.of_when(self.now).ends_with(" s ago");
+            for (met, what) in
+                [calm && self.network == Nagging, follower.older_heard(self.now).is_some(), begun_with_age].into_iter().zip(RARE)
+            {
+                if met {
+                    count(self.tally, what);
+                }
+            }
             let words = state.to_string();
             WORDS.iter().filter(|word| words.contains(**word)).for_each(|word| count(self.tally, word));
             count(
