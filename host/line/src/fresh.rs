@@ -139,22 +139,37 @@ impl State {
     }
 }
 
-/// The state in a word or two; two where two are true.
+/// What can be true of a screen.
+#[derive(Clone, Copy, PartialEq, Eq, Debug)]
+pub enum Word {
+    Waiting,
+    Begun,
+    Level,
+    Old,
+    Behind,
+    Silent,
+}
+
+impl State {
+    /// What is true, and how it is said; two where two are true.
+    pub fn words(&self) -> Vec<(Word, String)> {
+        let silent = self.quiet().filter(|_| self.is_silent()).map(|quiet| (Word::Silent, format!("SILENT for {} s", quiet.as_secs())));
+        let place = match self {
+            State::Waiting => Some((Word::Waiting, "WAITING for a candidate".into())),
+            State::Shows { age: Some(age), .. } if self.is_level() => return vec![(Word::Level, format!("LEVEL, {}", seconds(*age)))],
+            State::Begun { sitting, .. } => Some((Word::Begun, format!("BEGUN: sitting {sitting}"))),
+            State::Shows { behind: 0, .. } => silent.is_none().then(|| (Word::Old, "OLD".into())),
+            State::Shows { behind, .. } => Some((Word::Behind, format!("BEHIND by {behind}"))),
+        };
+        [silent, place].into_iter().flatten().collect()
+    }
+}
+
+/// The words, a comma between two.
 impl fmt::Display for State {
     fn fmt(&self, f: &mut fmt::Formatter) -> fmt::Result {
-        match self {
-            State::Waiting => return write!(f, "WAITING for a candidate"),
-            State::Shows { age: Some(age), .. } if self.is_level() => return write!(f, "LEVEL, {}", seconds(*age)),
-            _ => {}
-        }
-        let silent = self.quiet().filter(|_| self.is_silent()).map(|quiet| format!("SILENT for {} s", quiet.as_secs()));
-        let place = match self {
-            State::Begun { sitting, .. } => Some(format!("BEGUN: sitting {sitting}")),
-            State::Shows { behind: 0, .. } => silent.is_none().then(|| "OLD".to_string()),
-            State::Shows { behind, .. } => Some(format!("BEHIND by {behind}")),
-            State::Waiting => None,
-        };
-        write!(f, "{}", [silent, place].into_iter().flatten().collect::<Vec<_>>().join(", "))
+        let said: Vec<_> = self.words().into_iter().map(|(_, said)| said).collect();
+        f.write_str(&said.join(", "))
     }
 }
 

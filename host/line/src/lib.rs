@@ -14,7 +14,7 @@ pub mod sittings;
 
 pub use candidate::Candidate;
 pub use follower::Follower;
-pub use fresh::State;
+pub use fresh::{State, Word};
 pub use invigilator::{Invigilator, Taken};
 pub use message::Question;
 pub use seal::{SharedKey, LONGEST};

@@ -3,28 +3,9 @@ use crate::bad_line::Faults;
 use std::net::{SocketAddr, ToSocketAddrs};
 use std::path::PathBuf;
 
-pub const HELP: &str = "\
-./run                                 the candidate's screen and the invigilator's mirror in one terminal
-./run candidate --to HOST:PORT --key FILE
-                                      the candidate's screen; its reports go to that address
-./run invigilator --listen HOST:PORT --key FILE
-                                      the mirror of the candidate whose reports come there; port 0 is any free one
-./run key FILE                        makes a key in a new file; both ends need the same one, and nobody else may have it
-
-  --key FILE                          for candidate and invigilator: the key under which all that they send is sealed
-  --width 40|80                       columns of the new screen (not for the invigilator)
-  --loss N  --repeat N  --reorder N   how many datagrams in a hundred the line loses, repeats, reorders (likewise)
-                                      those that are not named are then 0
-  --seed N                            what decides which ones (likewise); printed where it matters
-  --sitting N                         for the candidate: the number of its sitting, to be larger after each restart; without it the
-                                      seconds of the clock, but at least one more than the last, which is kept in the file
-                                      futonrobin/sitting of $XDG_STATE_HOME or ~/.local/state
-  --keys FILE                         for candidate and invigilator, without a terminal: the candidate presses these keys,
-                                      the invigilator compares its mirror with them after every report
-  --help                              these lines
-
-Without a terminal on standard input ./run plays recorded keys over a bad line, prints both screens and the verdict.
-";
+/// The text of `--help`, which `./run` shows before there is a program.
+pub const HELP: &str = include_str!("../help.txt");
+pub const VERSION: &str = concat!("futonrobin ", env!("CARGO_PKG_VERSION"));
 
 #[derive(Clone, Copy, PartialEq, Eq, Debug)]
 pub enum Place {
@@ -37,6 +18,7 @@ pub enum Place {
 #[derive(PartialEq, Eq, Debug)]
 pub enum Asked {
     Help,
+    Version,
     /// A key in this new file.
     Key(PathBuf),
     Run(Arguments),
@@ -58,15 +40,18 @@ pub struct Arguments {
 pub fn read(words: impl IntoIterator<Item = String>) -> Result<Asked, String> {
     let mut words = words.into_iter().peekable();
     let program = words.next_if(|word| !word.starts_with('-'));
-    if program.as_deref() == Some("key") {
-        return key_to_make(words);
+    match program.as_deref() {
+        Some("help") => return Ok(Asked::Help),
+        Some("key") => return key_to_make(words),
+        _ => {}
     }
     let mut arguments = Arguments { place: Place::Both, key: None, width: None, faults: None, seed: None, sitting: None, keys: None };
     let mut address = None;
     while let Some(word) = words.next() {
         let mut value = || words.next().ok_or_else(|| format!("{word} needs a value after it; ./run --help lists the words"));
         match (word.as_str(), program.as_deref()) {
-            ("--help", _) => return Ok(Asked::Help),
+            ("--help" | "-h", _) => return Ok(Asked::Help),
+            ("--version", _) => return Ok(Asked::Version),
             ("--to", Some("candidate")) => address = Some(Place::To(address_of(&value()?, 1)?)),
             ("--listen", Some("invigilator")) => address = Some(Place::Listen(address_of(&value()?, 0)?)),
             ("--key", Some("candidate" | "invigilator")) => arguments.key = Some(value()?.into()),
@@ -107,7 +92,7 @@ fn set_fault(faults: &mut Faults, word: &str, percent: u32) {
 /// The one word after `key`.
 fn key_to_make(mut words: impl Iterator<Item = String>) -> Result<Asked, String> {
     match (words.next(), words.next()) {
-        (Some(word), _) if word == "--help" => Ok(Asked::Help),
+        (Some(word), _) if ["--help", "-h"].contains(&word.as_str()) => Ok(Asked::Help),
         (Some(file), None) if !file.starts_with('-') => Ok(Asked::Key(file.into())),
         (None, _) => Err("a file for the key is missing: ./run key FILE".into()),
         (Some(word), None) | (_, Some(word)) => Err(format!("'{word}' is not understood here; ./run key FILE makes a key in a new file")),

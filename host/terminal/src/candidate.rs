@@ -1,28 +1,28 @@
 //! The candidate's program, over UDP.
 use crate::bad_line::{BadLine, Faults, Passed};
-use crate::canvas::{wrapped, Canvas, Size, PLAIN, STRONG};
+use crate::canvas::{wrapped, Canvas, Part, Size, PLAIN, RED, STRONG};
 use crate::clock::Clock;
 use crate::desk::Desk;
+use crate::front::{Front, Page};
+use crate::help;
 use crate::keys::Key;
+use crate::panel::{Area, Panel, AROUND, SCREEN};
 use crate::sitting::{self, Told};
-use crate::terminal::{self, Input, Program};
+use crate::span;
+use crate::submitted;
+use crate::terminal::{self, Input, Program, Then};
+use crate::told;
 use crate::udp::{drain, socket_to};
-use futonrobin::{Pair, Refusal, Shown};
-use line::fresh::seconds;
+use crate::window::Window;
+use futonrobin::{Refusal, Screen, Shown};
 use line::SharedKey;
-use std::cmp::Ordering;
 use std::io;
 use std::net::{SocketAddr, UdpSocket};
 use std::thread::sleep;
 use std::time::{Duration, Instant};
 
 const TICK: Duration = Duration::from_millis(20);
-/// Three rows stand under the screen, help the last of them, then the submitted lines, of which one must have room. They need 80 columns,
-/// whatever its width.
-const HELP_AT: usize = 25 + 2;
-const LIST_AT: usize = HELP_AT + 1;
-const NEEDED: Size = Size { cols: 80, rows: LIST_AT + 1 };
-const HELP: &str = "Ctrl-Q leaves, Ctrl-J joins the next row; Ctrl-A, K, W: colour, keys, width";
+pub const HINT: &str = "Ctrl-G: help";
 
 /// With keys from a file, so many datagrams go out before a pause, so that a receiver's buffer holds them.
 const BURST: u64 = 32;
@@ -53,6 +53,8 @@ struct Candidate {
     notice: Vec<Told>,
     /// Why the last datagram could not be sent.
     problem: Option<io::Error>,
+    front: Front,
+    window: Window,
 }
 
 impl Candidate {
@@ -62,7 +64,8 @@ impl Candidate {
         let now = clock.now();
         let end = line::Candidate::new(&shared, &desk.screen, now);
         let (bad_line, socket) = (BadLine::new(faults, seed), socket_to(to)?);
-        let mut candidate = Self { desk, end, bad_line, socket, to, clock, now, notice: sitting.told, problem: None };
+        let (front, window) = (Front::new(true), Window::default());
+        let mut candidate = Self { desk, end, bad_line, socket, to, clock, now, notice: sitting.told, problem: None, front, window };
         candidate.full();
         Ok(candidate)
     }
@@ -113,44 +116,49 @@ impl Candidate {
         self.end.is_shown(self.desk.screen.pair())
     }
 
-    fn paint(&self, canvas: &mut Canvas) {
+    fn paint(&mut self, canvas: &mut Canvas) {
+        match self.front.page() {
+            Some(Page::Help) => help::page(canvas, "CANDIDATE: THE KEYS", [help::CANDIDATE, &[]]),
+            Some(Page::Submitted(back)) => {
+                let back = submitted::page(canvas, &self.told_in(canvas.size.cols), &self.desk.submitted, back);
+                self.front.is_back(back);
+            }
+            None => self.paint_screen(canvas),
+        }
+    }
+
+    /// The screen, and under it what there is to know about the sitting and the submitted lines, where they have room. Before anything is typed the
+    /// screen, which is empty, makes room for the first.
+    fn paint_screen(&mut self, canvas: &mut Canvas) {
+        let Size { cols, rows } = canvas.size;
+        let (new, whole) = (self.desk.screen.serial() == 0, self.told_in(cols));
+        let lists = rows > SCREEN + AROUND;
+        let status = self.status(if lists { None } else { Some(cols) });
+        let room = if new { rows - AROUND - 2 } else { rows.saturating_sub(SCREEN + AROUND + !self.desk.submitted.is_empty() as usize) };
+        let notice = if whole.len() <= room { whole } else { self.notice.iter().map(|told| told.what.clone()).take(room).collect() };
+        let area = Area { left: 0, cols, rows: if new { rows - notice.len() } else { rows } };
         let screen = &self.desk.screen;
-        canvas.screen(0, 0, screen, &self.desk.table);
-        let (row, col) = screen.cursor();
-        canvas.cursor = Some((row as usize, col as usize));
-        let insert = if screen.insert_mode() { "INS" } else { "" };
-        canvas.text(25, 0, &format!("CANDIDATE  sitting {}  serial {} {insert}", screen.sitting(), screen.serial()), PLAIN);
-        let (invigilator, emphasis) = self.invigilator(self.now);
-        canvas.text(26, 0, &invigilator, emphasis);
-        self.paint_list(canvas);
+        let panel = Panel { title: title(screen), hint: HINT, shown: Some(screen), status, table: &self.desk.table };
+        let painted = panel.paint(canvas, area, &mut self.window);
+        canvas.cursor = painted.cursor;
+        notice.iter().enumerate().for_each(|(at, line)| canvas.text(painted.below + at, 0, line, STRONG));
+        submitted::list(canvas, painted.below + notice.len(), &self.desk.submitted);
     }
 
-    /// Help, the notice, and the submitted lines, of which the last has a row in any case. A notice for which there is no room takes that of help
-    /// until something is typed.
-    fn paint_list(&self, canvas: &mut Canvas) {
-        let submitted = &self.desk.submitted;
-        let (mut at, mut room) = (LIST_AT, canvas.size.rows - LIST_AT - !submitted.is_empty() as usize);
-        if self.notice.len() > room && self.desk.screen.serial() == 0 {
-            (at, room) = (HELP_AT, room + 1);
-        } else {
-            canvas.text(HELP_AT, 0, HELP, PLAIN);
-        }
-        for line in self.notice_in(room) {
-            canvas.text(at, 0, &line, STRONG);
-            at += 1;
-        }
-        canvas.list(at, submitted);
+    /// What is known of the invigilator, or what is asked; how one types; and in one row of so many columns the last submitted line.
+    fn status(&self, one_row: Option<usize>) -> Vec<Vec<Part>> {
+        let submitted = one_row.and_then(|cols| submitted::in_a_row(&self.desk.submitted, cols));
+        let first = match self.front.question(self.desk.other_width()) {
+            Some(question) => vec![question],
+            None => self.invigilator(),
+        };
+        vec![first, span::words(&self.desk.screen), submitted.into_iter().collect()]
     }
 
-    /// The lines of the notice: what follows, and why, if that has room too.
-    fn notice_in(&self, rows: usize) -> Vec<String> {
-        let why = |told: &Told| wrapped(&told.why, NEEDED.cols - 2).into_iter().map(|line| format!("  {line}")).collect::<Vec<_>>();
-        let whole: Vec<_> = self.notice.iter().flat_map(|told| [vec![told.what.clone()], why(told)].concat()).collect();
-        if whole.len() <= rows {
-            whole
-        } else {
-            self.notice.iter().map(|told| told.what.clone()).take(rows).collect()
-        }
+    /// What there is to know about the sitting: what follows, and why.
+    fn told_in(&self, cols: usize) -> Vec<String> {
+        let why = |told: &Told| wrapped(&told.why, cols - 2).into_iter().map(|line| format!("  {line}")).collect::<Vec<_>>();
+        self.notice.iter().flat_map(|told| [vec![told.what.clone()], why(told)].concat()).collect()
     }
 
     /// Prints how it went; whether the invigilator shows the last screen.
@@ -162,29 +170,19 @@ impl Candidate {
         self.is_shown()
     }
 
-    /// What is known of the invigilator, in emphasis if this screen does not reach it.
-    fn invigilator(&self, now: Instant) -> (String, u8) {
-        if let Some(problem) = &self.problem {
-            return (format!("nothing can be sent to {}: {problem}", self.to), STRONG);
-        }
-        let Some((question, when)) = self.end.told() else {
-            return (format!("no invigilator heard yet at {}", self.to), PLAIN);
-        };
-        told_by(question.shown, self.desk.screen.sitting(), now.saturating_duration_since(when))
+    /// What is known of the invigilator, and where it should be if nothing is.
+    fn invigilator(&self) -> Vec<Part> {
+        let problem = self.problem.as_ref().map(|problem| (format!("nothing can be sent to {}: {problem}", self.to), RED));
+        let told = told::by(&self.end, self.desk.screen.pair(), self.now);
+        let at = (problem.is_none() && self.end.told().is_none()).then(|| (format!("at {}", self.to), PLAIN));
+        problem.into_iter().chain(told).chain(at).collect()
     }
 }
 
-/// What an invigilator has told so long ago, or later, in emphasis if it does not show this sitting for good.
-fn told_by(shown: Option<Pair>, sitting: u32, ago: Duration) -> (String, u8) {
-    let ago = seconds(ago);
-    let Some(shown) = shown else {
-        return (format!("invigilator shows nothing yet, heard {ago} ago"), PLAIN);
-    };
-    match shown.sitting.cmp(&sitting) {
-        Ordering::Less => (format!("invigilator still shows sitting {}, heard {ago} ago", shown.sitting), PLAIN),
-        Ordering::Equal => (format!("invigilator shows {}, heard {ago} ago", shown.serial), PLAIN),
-        Ordering::Greater => (format!("NOT SHOWN: the invigilator follows sitting {}, heard {ago} ago", shown.sitting), STRONG),
-    }
+/// Who it is, and where the screen stands.
+pub fn title(screen: &Screen) -> Vec<Part> {
+    let (sitting, call) = (format!("sitting {}", screen.sitting()), format!("call {}", screen.serial()));
+    vec![("CANDIDATE".into(), STRONG), (sitting, STRONG), (call, PLAIN)]
 }
 
 impl Program for Candidate {
@@ -192,20 +190,25 @@ impl Program for Candidate {
         self.pass()
     }
 
-    fn canvas(&self, size: Size) -> Canvas {
-        Canvas::if_it_fits(NEEDED, size, |canvas| self.paint(canvas))
+    fn canvas(&mut self, size: Size) -> Canvas {
+        self.front.too_small(size).unwrap_or_else(|| {
+            let mut canvas = Canvas::new(size);
+            self.paint(&mut canvas);
+            canvas
+        })
     }
 
-    fn input(&mut self, input: Input, size: Size) {
-        match input {
-            // Nobody types on a screen that is not shown.
-            Input::Key(key) if NEEDED.fits(size) => {
+    fn input(&mut self, input: Input, size: Size) -> Then {
+        match self.front.take(input, size) {
+            Some(Input::Leave) => return Then::Leave,
+            Some(Input::Key(key)) => {
                 if let Err(refusal) = self.press(key) {
                     self.desk.submitted.push(format!("({refusal})"));
                 }
             }
             _ => {}
         }
+        Then::GoOn
     }
 }
 
@@ -244,6 +247,8 @@ pub fn with_keys(start: Start, keys: &[Key]) -> io::Result<bool> {
 mod tests {
     use super::*;
 
+    const USUAL: Size = Size { cols: 80, rows: 24 };
+
     /// A candidate in sitting 7 with so many notices, to which nobody listens; and the key with which one could.
     struct Scene {
         candidate: Candidate,
@@ -259,62 +264,103 @@ mod tests {
             Self { candidate: Candidate::new(start).unwrap(), shared }
         }
 
-        /// What stands from the row of help on, in a terminal of so many rows.
-        fn below(&self, rows: usize) -> Vec<String> {
-            let mut canvas = Canvas::new(Size { cols: NEEDED.cols, rows });
-            self.candidate.paint(&mut canvas);
-            (HELP_AT..rows).map(|row| canvas.row(row).iter().map(|spot| spot.ch).collect::<String>().trim_end().into()).collect()
+        fn rows(&mut self, rows: usize) -> Vec<String> {
+            self.candidate.problem = None;
+            let canvas = self.candidate.canvas(Size { cols: 80, rows });
+            (0..rows).map(|row| canvas.line(row)).collect()
         }
+
+        /// What stands under the three rows of status, in a terminal of so many rows.
+        fn below(&mut self, rows: usize) -> Vec<String> {
+            let shown = self.rows(rows);
+            let strip = shown.iter().position(|row| row.starts_with("1LIST")).unwrap();
+            shown[strip + 4..].to_vec()
+        }
+
+        fn types(&mut self, text: &str) {
+            for ch in text.bytes() {
+                self.candidate.input(Input::Key(Key::Char(ch)), USUAL);
+            }
+        }
+    }
+
+    fn said(candidate: &Candidate) -> String {
+        candidate.invigilator().into_iter().map(|(text, _)| text).collect::<Vec<_>>().join(", ")
     }
 
     #[test]
     fn what_the_invigilator_shows_is_told() {
         let Scene { mut candidate, shared } = Scene::new(0);
         candidate.problem = None;
-        let told = |candidate: &Candidate| candidate.invigilator(candidate.now + Duration::from_millis(2_500)).0;
-        assert_eq!((told(&candidate).as_str(), candidate.is_shown()), ("no invigilator heard yet at 127.0.0.1:9", false));
+        assert_eq!((said(&candidate).as_str(), candidate.is_shown()), ("NO INVIGILATOR HEARD yet, at 127.0.0.1:9", false));
         let (mut invigilator, now) = (line::Invigilator::new(&shared), candidate.now);
         let sent = candidate.end.full(&candidate.desk.screen, now);
         invigilator.receive(&sent[0], candidate.to, now);
         candidate.end.receive(&invigilator.ask(now)[0].1);
-        assert_eq!((told(&candidate).as_str(), candidate.is_shown()), ("invigilator shows 0, heard 2.5 s ago", true));
+        candidate.now += Duration::from_millis(2_500);
+        assert_eq!((said(&candidate).as_str(), candidate.is_shown()), ("the invigilator shows call 0 of 0, heard 2.5 s ago", true));
         candidate.clock.slept(Duration::from_secs(3_600));
         candidate.pass().unwrap();
         candidate.problem = None;
-        assert!(told(&candidate).starts_with("invigilator shows 0, heard 360"), "{}", told(&candidate));
+        assert!(said(&candidate).starts_with("NO INVIGILATOR HEARD for 360"), "{}", said(&candidate));
         candidate.press(Key::Char(b'A')).unwrap();
         assert!(!candidate.is_shown());
+        candidate.problem = Some(io::ErrorKind::NetworkUnreachable.into());
+        let both = said(&candidate);
+        assert!(both.starts_with("nothing can be sent to 127.0.0.1:9: ") && both.contains(", NO INVIGILATOR HEARD for "), "{both}");
     }
 
     #[test]
-    fn what_an_invigilator_may_tell() {
-        let told = |shown: Option<(u32, u32)>| {
-            let shown = shown.map(|(sitting, serial)| Pair { sitting, serial });
-            told_by(shown, 7, Duration::from_millis(150))
-        };
-        assert_eq!(told(None), ("invigilator shows nothing yet, heard 0.2 s ago".into(), PLAIN));
-        assert_eq!(told(Some((5, 20))), ("invigilator still shows sitting 5, heard 0.2 s ago".into(), PLAIN));
-        assert_eq!(told(Some((7, 20))), ("invigilator shows 20, heard 0.2 s ago".into(), PLAIN));
-        assert_eq!(told(Some((8, 0))), ("NOT SHOWN: the invigilator follows sitting 8, heard 0.2 s ago".into(), STRONG));
+    fn in_the_usual_terminal() {
+        let mut scene = Scene::new(0);
+        scene.types("10 WARD 7");
+        scene.candidate.input(Input::Key(Key::Insert), USUAL);
+        let shown = scene.rows(24);
+        assert_eq!(
+            (shown[0].as_str(), shown[1].split('│').next()),
+            (
+                "CANDIDATE  sitting 7  call 10                                       Ctrl-G: help",
+                Some("10 WARD 7                               ")
+            )
+        );
+        assert!(shown[1..21].iter().all(|row| row.chars().nth(40) == Some('│')), "a screen of 40 columns has an edge");
+        let mark = format!("{:66}▼ 5 rows below", "NO INVIGILATOR HEARD yet  at 127.0.0.1:9");
+        assert_eq!(shown[20..], [shown[20].as_str(), &mark, "INSERT  room for 246", ""]);
+        scene.candidate.input(Input::Key(Key::Enter), USUAL);
+        assert_eq!(scene.rows(24)[23], "submitted 1: 10 WARD 7");
+        assert_eq!(scene.below(30), ["submitted 1: 10 WARD 7"], "where there are more rows it is in the list");
+        assert_eq!(scene.rows(30)[28], "");
     }
 
     #[test]
-    fn a_notice_in_the_smallest_terminal() {
+    fn what_covers_the_screen() {
         let mut scene = Scene::new(1);
-        assert_eq!(scene.below(NEEDED.rows), [HELP, "notice 0"]);
-        assert_eq!(scene.below(NEEDED.rows + 1), [HELP, "notice 0", "  because of 0"]);
-        scene.candidate.press(Key::Function(2)).unwrap();
-        assert_eq!(scene.below(NEEDED.rows), [HELP, "submitted 1: RUN"]);
-        assert_eq!(scene.below(NEEDED.rows + 1), [HELP, "notice 0", "submitted 1: RUN"]);
+        scene.types("A");
+        scene.candidate.input(Input::Help, USUAL);
+        assert_eq!(scene.rows(24)[0], "CANDIDATE: THE KEYS");
+        scene.candidate.input(Input::Key(Key::Escape), USUAL);
+        assert!(scene.rows(24)[1].starts_with("A "), "the key that leads back is not typed");
+        scene.candidate.input(Input::Submitted, USUAL);
+        assert_eq!(scene.rows(24)[..3], ["NOTHING SUBMITTED YET", "notice 0", "  because of 0"]);
+        assert_eq!(scene.candidate.input(Input::Leave, USUAL), Then::GoOn);
+        assert!(scene.rows(24)[21].starts_with("Leave? "));
+        scene.types("B");
+        assert!(scene.rows(24)[1].starts_with("AB ") && !scene.rows(24)[21].starts_with("Leave? "));
+        assert_eq!([Input::Leave; 2].map(|input| scene.candidate.input(input, USUAL)), [Then::GoOn, Then::Leave]);
     }
 
     #[test]
-    fn two_notices_in_the_smallest_terminal() {
+    fn what_there_is_to_know_about_the_sitting() {
         let mut scene = Scene::new(2);
-        assert_eq!(scene.below(NEEDED.rows), ["notice 0", "notice 1"], "they take the row of help");
-        assert_eq!(scene.below(NEEDED.rows + 3), [HELP, "notice 0", "  because of 0", "notice 1", "  because of 1"]);
-        scene.candidate.press(Key::Char(b'A')).unwrap();
-        assert_eq!(scene.below(NEEDED.rows), [HELP, "notice 0"], "until something is typed");
-        assert_eq!(scene.below(NEEDED.rows + 1), [HELP, "notice 0", "notice 1"]);
+        let whole = ["notice 0", "  because of 0", "notice 1", "  because of 1"];
+        assert_eq!(scene.below(24), whole, "the empty screen makes room");
+        assert_eq!(scene.below(33), whole);
+        scene.types("A");
+        assert_eq!(scene.below(24), [""; 0], "and has its rows when something is typed");
+        assert_eq!(scene.below(30), ["notice 0"]);
+        assert_eq!(scene.below(31), ["notice 0", "notice 1"]);
+        assert_eq!(scene.below(33), whole);
+        scene.candidate.input(Input::Key(Key::Function(2)), USUAL);
+        assert_eq!(scene.below(31), ["notice 0", "submitted 1: ARUN"], "the last submitted line has a row in any case");
     }
 }

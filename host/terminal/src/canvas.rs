@@ -1,19 +1,36 @@
 //! What a terminal is to show, before it is shown: characters with attributes, and a cursor.
 use crate::glyphs::{self, glyph};
 use futonrobin::{Cell, KeyTable, Shown};
+use std::ops::Range;
 
 /// The attribute of what is ours: titles, status, help; and of the key strip.
 pub const PLAIN: u8 = 0x07;
 pub const STRONG: u8 = 0x0f;
 pub const REVERSED: u8 = 0x70;
+/// Of what is well, of what is to be watched, and of what is not well.
+pub const GREEN: u8 = 0x0a;
+pub const YELLOW: u8 = 0x0e;
+pub const RED: u8 = 0x0c;
+
+/// A text, and its attribute.
+pub type Part = (String, u8);
 
 #[derive(Clone, Copy, PartialEq, Eq)]
 pub struct Spot {
     pub ch: char,
     pub attr: u8,
+    pub underlined: bool,
 }
 
-const BLANK: Spot = Spot { ch: ' ', attr: PLAIN };
+impl Spot {
+    pub fn new(ch: char, attr: u8) -> Self {
+        Self { ch, attr, underlined: false }
+    }
+
+    fn looks_like(self, other: Spot) -> bool {
+        self.attr == other.attr && self.underlined == other.underlined
+    }
+}
 
 #[derive(Clone, Copy, PartialEq, Eq, Debug)]
 pub struct Size {
@@ -36,7 +53,7 @@ pub struct Canvas {
 
 impl Canvas {
     pub fn new(size: Size) -> Self {
-        Self { size, cursor: None, spots: vec![BLANK; size.cols * size.rows] }
+        Self { size, cursor: None, spots: vec![Spot::new(' ', PLAIN); size.cols * size.rows] }
     }
 
     pub fn row(&self, row: usize) -> &[Spot] {
@@ -50,34 +67,53 @@ impl Canvas {
         }
     }
 
-    /// A text that the edge cuts shows that it goes on: else the first digits of a number would read as another number.
-    pub fn text(&mut self, row: usize, col: usize, text: &str, attr: u8) {
-        let room = self.size.cols.saturating_sub(col);
-        for (at, ch) in fitting(text, room).chars().enumerate() {
-            self.put(row, col + at, Spot { ch, attr });
+    /// In the columns up to this one. A text that is cut there shows that it goes on: else the first digits of a number would read as another number.
+    pub fn text_to(&mut self, row: usize, cols: Range<usize>, text: &str, attr: u8) {
+        for (at, ch) in fitting(text, cols.len()).chars().enumerate() {
+            self.put(row, cols.start + at, Spot::new(ch, attr));
         }
     }
 
+    /// Up to the edge of the terminal.
+    pub fn text(&mut self, row: usize, col: usize, text: &str, attr: u8) {
+        self.text_to(row, col..self.size.cols, text, attr);
+    }
+
     /// Texts in one row, two spaces between them.
-    pub fn parts(&mut self, row: usize, left: usize, parts: &[(String, u8)]) {
-        let mut col = left;
-        for (text, attr) in parts.iter().filter(|(text, _)| !text.is_empty()) {
-            self.text(row, col, text, *attr);
-            col += text.chars().count() + 2;
+    pub fn parts(&mut self, row: usize, cols: Range<usize>, parts: &[Part]) {
+        let mut col = cols.start;
+        for (text, attr) in parts {
+            self.text_to(row, col..cols.end, text, *attr);
+            col += length(text) + APART;
         }
+    }
+
+    /// A text that ends in this column.
+    pub fn text_before(&mut self, row: usize, end: usize, text: &str, attr: u8) {
+        self.text(row, end.saturating_sub(length(text)), text, attr);
+    }
+
+    /// Rows of a screen or a mirror. The last cell of one whose line goes on in the next row is underlined.
+    pub fn rows(&mut self, top: usize, left: usize, shown: &impl Shown, rows: Range<u32>) {
+        for (at, row) in rows.enumerate() {
+            for col in 0..shown.width() {
+                let Cell { ch, attr } = shown.cell(row, col).expect("the place is inside of the screen");
+                let underlined = col + 1 == shown.width() && shown.continues(row).expect("the row is inside of the screen");
+                self.put(top + at, left + col as usize, Spot { ch: glyph(ch), attr, underlined });
+            }
+        }
+    }
+
+    pub fn strip(&mut self, row: usize, left: usize, width: u32, table: &KeyTable) {
+        let strip = table.strip(0, width).expect("a screen's width is a strip's");
+        self.text(row, left, &glyphs::string(&strip), REVERSED);
     }
 
     /// All 25 rows of a screen or a mirror. While keys are on, the last is the key strip.
     pub fn screen(&mut self, top: usize, left: usize, shown: &impl Shown, table: &KeyTable) {
-        for row in 0..25 {
-            for col in 0..shown.width() {
-                let Cell { ch, attr } = shown.cell(row, col).expect("the place is inside of the screen");
-                self.put(top + row as usize, left + col as usize, Spot { ch: glyph(ch), attr });
-            }
-        }
+        self.rows(top, left, shown, 0..25);
         if shown.keys_visible() {
-            let strip = table.strip(0, shown.width()).expect("a screen's width is a strip's");
-            self.text(top + 24, left, &glyphs::string(&strip), REVERSED);
+            self.strip(top + 24, left, shown.width(), table);
         }
     }
 
@@ -89,38 +125,64 @@ impl Canvas {
         }
     }
 
-    /// The last submitted lines, in the rows from `top` on.
-    pub fn list(&mut self, top: usize, submitted: &[String]) {
-        let rows = self.size.rows.saturating_sub(top);
-        let first = submitted.len().saturating_sub(rows);
-        for (at, line) in submitted[first..].iter().enumerate() {
-            self.text(top + at, 0, &format!("submitted {}: {line}", first + at + 1), PLAIN);
-        }
+    /// What stands in a row, for the tests.
+    #[cfg(test)]
+    pub fn line(&self, row: usize) -> String {
+        self.row(row).iter().map(|spot| spot.ch).collect::<String>().trim_end().into()
     }
+}
 
-    /// The canvas, or a sentence if it does not fit into the terminal.
-    pub fn if_it_fits(needed: Size, size: Size, paint: impl FnOnce(&mut Canvas)) -> Self {
-        let mut canvas = Canvas::new(size);
-        if needed.fits(size) {
-            paint(&mut canvas);
-            return canvas;
-        }
-        let (has, needs) = (format!("{} columns and {} rows", size.cols, size.rows), format!("{} and {}", needed.cols, needed.rows));
-        let sentence =
-            format!("The terminal is too small: it has {has}, and {needs} are needed. Make it larger, or press Ctrl-Q to leave.");
-        for (row, line) in wrapped(&sentence, size.cols).iter().enumerate() {
-            canvas.text(row, 0, line, STRONG);
-        }
-        canvas
-    }
+/// Columns between two texts of a row.
+const APART: usize = 2;
+
+fn length(text: &str) -> usize {
+    text.chars().count()
+}
+
+/// The columns of texts in one row.
+pub fn length_of(parts: &[Part]) -> usize {
+    parts.iter().map(|(text, _)| length(text) + APART).sum::<usize>().saturating_sub(APART)
 }
 
 /// The text, or as much of it as fits into so many columns, the last of them then being `…`.
 pub fn fitting(text: &str, cols: usize) -> String {
-    if text.chars().count() <= cols {
+    if length(text) <= cols {
         return text.into();
     }
     text.chars().take(cols.saturating_sub(1)).chain(['…']).take(cols).collect()
+}
+
+/// Groups of texts in rows that have so many columns each. A group begins a row, if there are rows enough; a text that does not fit behind the one
+/// before it begins one too. What is too much for the last row is cut there.
+pub fn flowed(groups: &[Vec<Part>], rows: &[usize]) -> Vec<Vec<Part>> {
+    let apart = groups.iter().try_fold(Vec::new(), |before, group| Some([&before[..], &flow(group, rows.get(before.len()..)?)?].concat()));
+    apart.unwrap_or_else(|| {
+        let parts: Vec<_> = groups.concat();
+        flow(&parts, rows).unwrap_or_else(|| cut(parts, rows))
+    })
+}
+
+/// The rows of these texts, if there are enough.
+fn flow(parts: &[Part], rows: &[usize]) -> Option<Vec<Vec<Part>>> {
+    let mut flowed: Vec<Vec<Part>> = Vec::new();
+    for part in parts {
+        let count = flowed.len();
+        match flowed.last_mut() {
+            Some(row) if length_of(row) + APART + length(&part.0) <= rows[count - 1] => row.push(part.clone()),
+            _ if count == rows.len() => return None,
+            _ => flowed.push(vec![part.clone()]),
+        }
+    }
+    Some(flowed)
+}
+
+/// As many of the first texts as there are rows for, and in the last row what is left, which the edge cuts.
+fn cut(mut parts: Vec<Part>, rows: &[usize]) -> Vec<Vec<Part>> {
+    let Some(above) = rows.len().checked_sub(1) else { return Vec::new() };
+    let first = (0..=parts.len()).rev().find_map(|count| Some((count, flow(&parts[..count], &rows[..above])?)));
+    let (count, mut flowed) = first.unwrap_or_default();
+    flowed.push(parts.split_off(count));
+    flowed
 }
 
 /// The words of a sentence in lines of at most so many columns; a longer word, as a path may be, is broken.
@@ -128,24 +190,29 @@ pub fn wrapped(sentence: &str, cols: usize) -> Vec<String> {
     let mut lines: Vec<String> = Vec::new();
     for word in sentence.split(' ') {
         match lines.last_mut() {
-            Some(line) if line.chars().count() + 1 + word.chars().count() <= cols => *line += &format!(" {word}"),
-            _ => lines.extend(word.chars().collect::<Vec<_>>().chunks(cols.max(1)).map(|piece| piece.iter().collect())),
+            Some(line) if length(line) + 1 + length(word) <= cols => *line += &format!(" {word}"),
+            _ => lines.extend(broken(word, cols)),
         }
     }
     lines
 }
 
-/// The stretches of one attribute that differ from what stood there, or all of them: column, text, attribute.
-pub fn differing(before: Option<&[Spot]>, row: &[Spot]) -> Vec<(usize, String, u8)> {
-    let mut stretches: Vec<(usize, String, u8)> = Vec::new();
+/// A text in pieces of so many columns, the last of them perhaps shorter.
+pub fn broken(text: &str, cols: usize) -> Vec<String> {
+    text.chars().collect::<Vec<_>>().chunks(cols.max(1)).map(|piece| piece.iter().collect()).collect()
+}
+
+/// The stretches of one look that differ from what stood there, or all of them: column, text, and a spot of that look.
+pub fn differing(before: Option<&[Spot]>, row: &[Spot]) -> Vec<(usize, String, Spot)> {
+    let mut stretches: Vec<(usize, String, Spot)> = Vec::new();
     let mut end = 0;
     for (col, spot) in row.iter().enumerate() {
         if before.is_some_and(|before| before[col] == *spot) {
             continue;
         }
         match stretches.last_mut() {
-            Some((_, text, attr)) if end == col && *attr == spot.attr => text.push(spot.ch),
-            _ => stretches.push((col, spot.ch.into(), spot.attr)),
+            Some((_, text, look)) if end == col && look.looks_like(*spot) => text.push(spot.ch),
+            _ => stretches.push((col, spot.ch.into(), *spot)),
         }
         end = col + 1;
     }
@@ -155,6 +222,11 @@ pub fn differing(before: Option<&[Spot]>, row: &[Spot]) -> Vec<(usize, String, u
 #[cfg(test)]
 mod tests {
     use super::*;
+    use futonrobin::Screen;
+
+    fn part(text: &str) -> Part {
+        (text.into(), PLAIN)
+    }
 
     #[test]
     fn lines_are_as_long_as_they_may_be() {
@@ -174,7 +246,7 @@ mod tests {
         let shown = |text: &str| {
             let mut canvas = Canvas::new(Size { cols: 14, rows: 1 });
             canvas.text(0, 2, text, PLAIN);
-            canvas.row(0).iter().map(|spot| spot.ch).collect::<String>()
+            canvas.line(0)
         };
         assert_eq!(shown("BEHIND by 12"), "  BEHIND by 12");
         assert_eq!(shown("BEHIND by 123"), "  BEHIND by 1…");
@@ -183,18 +255,51 @@ mod tests {
 
     #[test]
     fn parts_of_a_row() {
-        let mut canvas = Canvas::new(Size { cols: 16, rows: 1 });
-        canvas.parts(0, 1, &[("BED".into(), PLAIN), (String::new(), PLAIN), ("12".into(), STRONG), ("is free".into(), PLAIN)]);
-        assert_eq!(canvas.row(0).iter().map(|spot| spot.ch).collect::<String>(), " BED  12  is fr…");
+        let mut canvas = Canvas::new(Size { cols: 20, rows: 1 });
+        canvas.parts(0, 1..16, &[part("BED"), part("12"), part("is free")]);
+        assert_eq!(canvas.line(0), " BED  12  is fr…");
+        canvas.text_before(0, 20, "END", PLAIN);
+        assert_eq!(canvas.line(0), " BED  12  is fr… END");
+    }
+
+    #[test]
+    fn groups_begin_a_row_each_where_there_are_rows_enough() {
+        let groups = [vec![part("LEVEL"), part("0.2 s")], vec![part("call 62"), part("INSERT")]];
+        let shown = |rows: &[usize]| {
+            let rows = flowed(&groups, rows);
+            rows.iter().map(|row| row.iter().map(|(text, _)| text.as_str()).collect::<Vec<_>>().join("  ")).collect::<Vec<_>>()
+        };
+        assert_eq!(shown(&[15, 15, 15]), ["LEVEL  0.2 s", "call 62  INSERT"]);
+        assert_eq!(shown(&[15, 14, 15]), ["LEVEL  0.2 s", "call 62", "INSERT"]);
+        assert_eq!(shown(&[11, 15, 15]), ["LEVEL", "0.2 s", "call 62  INSERT"]);
+        assert_eq!(shown(&[11, 14, 14]), ["LEVEL", "0.2 s  call 62", "INSERT"], "no row is left for a group of its own");
+        assert_eq!(shown(&[12, 9]), ["LEVEL  0.2 s", "call 62  INSERT"], "the edge cuts what is too much");
+        assert_eq!(shown(&[3]), ["LEVEL  0.2 s  call 62  INSERT"]);
+        assert_eq!(shown(&[]), [""; 0]);
+    }
+
+    #[test]
+    fn a_row_that_goes_on_is_underlined_at_its_end() {
+        let (mut screen, mut canvas) = (Screen::new(40, 1), Canvas::new(Size { cols: 41, rows: 3 }));
+        screen.print_bytes(&[b'A'; 41]).unwrap();
+        canvas.rows(0, 0, &screen, 0..3);
+        let underlined = |row| (0..41).filter(|&col| canvas.row(row)[col].underlined).collect::<Vec<_>>();
+        assert_eq!([0, 1, 2].map(underlined), [vec![39], vec![], vec![]]);
     }
 
     #[test]
     fn only_what_differs_is_painted() {
-        let spots = |text: &str, attr| text.chars().map(|ch| Spot { ch, attr }).collect::<Vec<_>>();
+        let spots = |text: &str, attr| text.chars().map(|ch| Spot::new(ch, attr)).collect::<Vec<_>>();
         let before = spots("WARD 7 BED 12", 7);
-        let after = [spots("WARD 8 ", 7), spots("BED", 0x1f), spots(" 12", 7)].concat();
-        assert_eq!(differing(Some(&before), &after), [(5, "8".into(), 7), (7, "BED".into(), 0x1f)]);
-        assert_eq!(differing(Some(&after), &after), []);
+        let mut after = [spots("WARD 8 ", 7), spots("BED", 0x1f), spots(" 12", 7)].concat();
+        let painted = |after: &[Spot]| {
+            let stretches = differing(Some(&before), after);
+            stretches.into_iter().map(|(col, text, look)| (col, text, look.attr, look.underlined)).collect::<Vec<_>>()
+        };
+        assert_eq!(painted(&after), [(5, "8".into(), 7, false), (7, "BED".into(), 0x1f, false)]);
         assert_eq!(differing(None, &after).len(), 3);
+        after[12].underlined = true;
+        assert_eq!(painted(&after)[2], (12, "2".into(), 7, true));
+        assert_eq!(painted(&before), []);
     }
 }

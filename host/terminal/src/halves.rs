@@ -1,11 +1,20 @@
-//! One terminal in two halves: the candidate's screen, the invigilator's mirror, and a simulated line between them.
+//! One terminal for both: the candidate's screen, the invigilator's mirror, and a simulated line between them. Side by side where there is room, else one
+//! half at a time.
 use crate::bad_line::{BadLine, Faults};
-use crate::canvas::{Canvas, Size, PLAIN, STRONG};
+use crate::candidate::{self, HINT};
+use crate::canvas::{Canvas, Part, Size, PLAIN, RED};
 use crate::clock::Clock;
 use crate::desk::Desk;
+use crate::front::{Front, Page};
+use crate::help;
 use crate::keys::Key;
-use crate::terminal::{self, Input, Program};
-use crate::view::{View, HELP_BACK};
+use crate::panel::{Area, Painted, Panel, AROUND, SCREEN};
+use crate::span;
+use crate::submitted;
+use crate::terminal::{self, Input, Program, Then};
+use crate::told;
+use crate::view::{Alarm, View, HINT_BACK};
+use crate::window::Window;
 use futonrobin::Shown;
 use line::{Candidate, Follower, Invigilator, SharedKey, Taken};
 use std::io;
@@ -15,11 +24,8 @@ use std::time::Instant;
 /// The line to begin with: bad enough to be seen.
 pub const FAULTS: Faults = Faults { loss: 10, repeat: 10, reorder: 30 };
 const PERCENTAGES: [u32; 5] = [0, 10, 30, 60, 100];
-
-/// Under a row of titles and the screens: four of state and line, help, and a row for the last submitted line.
-const ROWS: usize = 1 + 25 + 6;
-const HELP_AT: usize = ROWS - 2;
-const HELP: &str = "Ctrl-Q leaves, X cuts, N restarts; L, R, O: faults; A, K, W: modes; PageUp: back";
+/// Under both halves there is a row for the line between them.
+const LINE: usize = 1;
 
 /// Both ends are here, and no address is needed to find the other.
 const HERE: SocketAddr = SocketAddr::V4(SocketAddrV4::new(Ipv4Addr::LOCALHOST, 0));
@@ -34,6 +40,12 @@ pub struct Halves {
     pub there: BadLine,
     pub back: BadLine,
     view: View,
+    alarm: Alarm,
+    front: Front,
+    /// Of the candidate's screen, and of the mirror.
+    windows: [Window; 2],
+    /// Where there is no room for both halves, the mirror is in sight.
+    mirror_in_sight: bool,
     clock: Clock,
     now: Instant,
 }
@@ -51,7 +63,9 @@ impl Halves {
         let (shared, desk) = (SharedKey::draw(), Desk::new(width, 1));
         let (candidate, invigilator) = (Candidate::new(&shared, &desk.screen, now), Invigilator::new(&shared));
         let (there, back) = (BadLine::new(faults, seed), BadLine::new(faults, !seed));
-        Self { width, shared, desk, candidate, invigilator, there, back, view: View::default(), clock: Clock::new(), now }
+        let (view, alarm, front, windows) = (View::default(), Alarm::default(), Front::new(true), Default::default());
+        let (clock, mirror_in_sight) = (Clock::new(), false);
+        Self { width, shared, desk, candidate, invigilator, there, back, view, alarm, front, windows, mirror_in_sight, clock, now }
     }
 
     pub fn follower(&self) -> &Follower {
@@ -110,9 +124,10 @@ impl Halves {
             Input::Repeat => line.faults.repeat = next_percentage(line.faults.repeat),
             Input::Reorder => line.faults.reorder = next_percentage(line.faults.reorder),
             Input::Cut => line.cut = !line.cut,
+            Input::Other => self.mirror_in_sight = !self.mirror_in_sight,
             Input::Back => self.view.back(&self.invigilator.follower),
             Input::Forth => self.view.forth(&self.invigilator.follower),
-            Input::Key(_) | Input::Restart | Input::Leave | Input::Resized(_) => {}
+            _ => {}
         }
         (self.back.faults, self.back.cut) = (self.there.faults, self.there.cut);
     }
@@ -128,42 +143,77 @@ impl Halves {
         }
     }
 
-    /// Both halves are as wide as the wider one.
-    fn needed(&self) -> Size {
+    /// The columns of each half, which is as wide as the wider one, if both have room.
+    fn half(&self, size: Size) -> Option<usize> {
         let mirrored = self.view.screen(self.follower()).map_or(0, |mirror| mirror.width());
-        needed_for(self.desk.screen.width().max(mirrored))
+        let half = self.desk.screen.width().max(mirrored) as usize;
+        (2 * half < size.cols).then_some(half)
     }
 
-    fn paint(&self, canvas: &mut Canvas) {
+    fn paint(&mut self, canvas: &mut Canvas) {
+        match self.front.page() {
+            Some(Page::Help) => help::page(canvas, "THE KEYS", [help::CANDIDATE, help::DEMO]),
+            Some(Page::Submitted(back)) => {
+                let back = submitted::page(canvas, &[], &self.desk.submitted, back);
+                self.front.is_back(back);
+            }
+            None => self.paint_screens(canvas),
+        }
+    }
+
+    fn paint_screens(&mut self, canvas: &mut Canvas) {
+        let Size { cols, rows } = canvas.size;
+        let area = |left, cols| Area { left, cols, rows: rows - LINE };
+        let below = match self.half(canvas.size) {
+            Some(half) => {
+                let candidate = self.paint_candidate(canvas, area(0, half), "");
+                let mirror = self.paint_mirror(canvas, area(half + 1, cols - half - 1));
+                (0..candidate.below).for_each(|row| canvas.text_to(row, half..half + 1, "│", PLAIN));
+                canvas.cursor = candidate.cursor;
+                mirror.cursor.into_iter().for_each(|(row, col)| canvas.reverse(row, col));
+                candidate.below
+            }
+            None => {
+                let half = if self.mirror_in_sight {
+                    self.paint_mirror(canvas, area(0, cols))
+                } else {
+                    self.paint_candidate(canvas, area(0, cols), HINT)
+                };
+                canvas.cursor = half.cursor;
+                half.below
+            }
+        };
+        let under = self.front.question(self.desk.other_width()).map_or_else(|| self.line(canvas.size), |question| vec![question]);
+        canvas.parts(below, 0..cols, &under);
+        submitted::list(canvas, below + LINE, &self.desk.submitted);
+    }
+
+    fn paint_candidate(&mut self, canvas: &mut Canvas, area: Area, hint: &str) -> Painted {
         let Desk { screen, table, submitted } = &self.desk;
-        canvas.text(0, 0, "CANDIDATE", STRONG);
-        canvas.screen(1, 0, screen, table);
-        let (row, col) = screen.cursor();
-        canvas.cursor = Some((1 + row as usize, col as usize));
-        canvas.text(26, 0, &format!("sitting {}  serial {}", screen.sitting(), screen.serial()), PLAIN);
-        canvas.text(27, 0, if screen.insert_mode() { "INS" } else { "" }, PLAIN);
-        let (cut, lost, held) = (self.there.cut, self.there.lost + self.back.lost, self.there.held() + self.back.held());
-        canvas.text(28, 0, &format!("line: {}lost {lost}, held back {held}", if cut { "CUT, " } else { "" }), PLAIN);
-        canvas.text(29, 0, &self.there.faults.to_string(), PLAIN);
-
-        self.paint_right(canvas, self.needed().cols / 2 + 1);
-        canvas.text(HELP_AT, 0, if self.view.earlier(self.follower()).is_some() { HELP_BACK } else { HELP }, PLAIN);
-        canvas.list(HELP_AT + 1, submitted);
+        let lists = canvas.size.rows > SCREEN + AROUND + LINE;
+        let submitted = if lists { None } else { submitted::in_a_row(submitted, area.cols) };
+        let told = told::by(&self.candidate, screen.pair(), self.now);
+        let status = vec![told, span::words(screen), submitted.into_iter().collect()];
+        let panel = Panel { title: candidate::title(screen), hint, shown: Some(screen), status, table };
+        panel.paint(canvas, area, &mut self.windows[0])
     }
 
-    /// The invigilator's half.
-    fn paint_right(&self, canvas: &mut Canvas, left: usize) {
-        let (title, emphasis) = self.view.title(self.follower());
-        canvas.text(0, left, &title, emphasis);
-        (1..26).for_each(|row| canvas.text(row, left - 1, "│", PLAIN));
-        if let Some(mirror) = self.view.screen(self.follower()) {
-            canvas.screen(1, left, mirror, &self.desk.table);
-            let (row, col) = mirror.cursor();
-            canvas.reverse(1 + row as usize, left + col as usize);
-        }
-        for (at, (line, emphasis)) in self.view.lines(self.follower(), self.now).iter().enumerate() {
-            canvas.text(26 + at, left, line, *emphasis);
-        }
+    fn paint_mirror(&mut self, canvas: &mut Canvas, area: Area) -> Painted {
+        let follower = &self.invigilator.follower;
+        let hint = if self.view.earlier(follower).is_some() { HINT_BACK } else { HINT };
+        let (title, status) = (self.view.title(follower), self.view.status(follower, self.now).into());
+        let panel = Panel { title, hint, shown: self.view.screen(follower), status, table: &self.desk.table };
+        panel.paint(canvas, area, &mut self.windows[1])
+    }
+
+    /// The line between the two, and the key to the other half where that is not in sight.
+    fn line(&self, size: Size) -> Vec<Part> {
+        let other = if self.mirror_in_sight { "Ctrl-T: candidate" } else { "Ctrl-T: mirror" };
+        let other = self.half(size).is_none().then(|| (other.into(), PLAIN));
+        let cut = self.there.cut.then(|| ("line CUT".into(), RED));
+        let (lost, held) = (self.there.lost + self.back.lost, self.there.held() + self.back.held());
+        let line = [(self.there.faults.to_string(), PLAIN), (format!("lost {lost}, held back {held}"), PLAIN)];
+        cut.into_iter().chain(other).chain(line).collect()
     }
 }
 
@@ -175,30 +225,34 @@ impl Program for Halves {
         Ok(())
     }
 
-    fn canvas(&self, size: Size) -> Canvas {
-        Canvas::if_it_fits(self.needed(), size, |canvas| self.paint(canvas))
+    fn canvas(&mut self, size: Size) -> Canvas {
+        self.front.too_small(size).unwrap_or_else(|| {
+            let mut canvas = Canvas::new(size);
+            self.paint(&mut canvas);
+            canvas
+        })
     }
 
-    fn input(&mut self, input: Input, size: Size) {
-        match input {
-            // What clears the screen is not taken where it could not be shown.
-            Input::Key(Key::Width) if !needed_for(self.desk.other_width()).fits(size) => {}
-            Input::Restart if needed_for(self.width).fits(size) => {
+    fn input(&mut self, input: Input, size: Size) -> Then {
+        match self.front.take(input, size) {
+            Some(Input::Leave) => return Then::Leave,
+            Some(Input::Restart) => {
                 let arriving = self.restart();
                 self.arrive(arriving);
             }
-            // Nobody types on a screen that is not shown.
-            Input::Key(key) if self.needed().fits(size) => {
+            Some(Input::Key(key)) => {
                 let arriving = self.press(key);
                 self.arrive(arriving);
             }
-            _ => self.turn(input),
+            Some(input) => self.turn(input),
+            None => {}
         }
+        Then::GoOn
     }
-}
 
-fn needed_for(width: u32) -> Size {
-    Size { cols: 2 * width as usize + 1, rows: ROWS }
+    fn rings(&mut self) -> bool {
+        self.alarm.rings(self.follower().state(self.now))
+    }
 }
 
 fn next_percentage(now: u32) -> u32 {
@@ -211,11 +265,22 @@ mod tests {
     use crate::samples::{screen, Candidates};
     use std::time::Duration;
 
-    const SMALLEST: Size = Size { cols: 81, rows: ROWS };
+    const BOTH: Size = Size { cols: 81, rows: 30 };
+    const USUAL: Size = Size { cols: 80, rows: 24 };
 
-    /// What stands in a row, from a column on.
-    fn shown(halves: &Halves, row: usize, left: usize) -> String {
-        halves.canvas(SMALLEST).row(row)[left..].iter().map(|spot| spot.ch).collect::<String>().trim_end().into()
+    /// What stands in the terminal's rows.
+    fn shown(halves: &mut Halves, size: Size) -> Vec<String> {
+        let canvas = halves.canvas(size);
+        (0..size.rows).map(|row| canvas.line(row)).collect()
+    }
+
+    /// What stands in the rows under the screens, in the candidate's half and in the mirror's.
+    fn halves_of(halves: &mut Halves) -> [Vec<String>; 2] {
+        let rows = shown(halves, BOTH);
+        let half = |cols: std::ops::Range<usize>| {
+            move |row: &String| row.chars().skip(cols.start).take(cols.len()).collect::<String>().trim_end().into()
+        };
+        [rows[26..29].iter().map(half(0..40)).collect(), [&rows[..1], &rows[26..29]].concat().iter().map(half(41..81)).collect()]
     }
 
     fn candidates(halves: &Halves) -> Candidates {
@@ -223,20 +288,21 @@ mod tests {
     }
 
     #[test]
-    fn nothing_is_cut_in_the_smallest_terminal() {
+    fn nothing_is_cut_where_both_halves_have_room() {
         let now = Instant::now();
         let mut halves = Halves::new(40, Faults { loss: 100, repeat: 100, reorder: 100 }, 1, now);
-        (halves.there.cut, halves.there.lost) = (true, u32::MAX.into());
+        (halves.there.cut, halves.there.lost) = (true, 9_999_999);
         let mut candidates = candidates(&halves);
-        candidates.full(&mut halves.invigilator, &screen(1_794_844_323, 100), now);
-        candidates.step(&mut halves.invigilator, &screen(1_794_844_323, 112), now);
+        candidates.full(&mut halves.invigilator, &screen(1, 100), now);
+        candidates.step(&mut halves.invigilator, &screen(1, 112), now);
         halves.now = now + Duration::from_secs(600);
-        assert_eq!(shown(&halves, 0, 41), "INVIGILATOR  sitting 1794844323");
-        assert_eq!(shown(&halves, 26, 41), "SILENT for 600 s, BEHIND by 12");
-        assert_eq!(shown(&halves, 27, 41), "the screen of 600 s ago  m 100  n 112");
-        assert_eq!(shown(&halves, 28, 0), "line: CUT, lost 4294967295, held back 0  1 sitting so far");
-        assert_eq!(shown(&halves, 29, 0), "loss 100%, repeat 100%, reorder 100%");
-        assert_eq!(shown(&halves, HELP_AT, 0), HELP);
+        let [candidate, mirror] = halves_of(&mut halves);
+        assert_eq!(candidate, ["NO INVIGILATOR HEARD yet", "room for 255", ""]);
+        let expected = ["INVIGILATOR  sitting 1      Ctrl-G: help", "SILENT for 600 s  BEHIND by 12", "the screen of 600 s ago"];
+        assert_eq!(mirror[..3], expected);
+        assert_eq!(mirror[3], "shows call 100 of 112  room for 255  1 …", "but for how many sittings there were");
+        let line = "line CUT  loss 100%, repeat 100%, reorder 100%  lost 9999999, held back 0";
+        assert_eq!(shown(&mut halves, BOTH)[29], line);
     }
 
     #[test]
@@ -249,11 +315,45 @@ mod tests {
             candidates.full(&mut halves.invigilator, &screen(pair.0, pair.1), halves.now);
         }
         halves.turn(Input::Back);
-        let right: Vec<_> = [0, 26, 27, 28, 29].map(|row| shown(&halves, row, 41)).into();
-        let expected =
-            ["NOT CURRENT: sitting 1", "call 1000 of 1000", "now LEVEL, 0.3 s", "sitting 2  m 7  n 7", "older sitting 1 heard 0.0 s ago"];
-        assert_eq!(right, expected);
-        assert_eq!(shown(&halves, HELP_AT, 0), HELP_BACK);
+        let expected = [
+            "NOT CURRENT: sitting 1    PageDown: back",
+            "call 1000 of 1000  now LEVEL, 0.3 s",
+            "sitting 2  shows call 7 of 7",
+            "older sitting 1 heard 0.0 s ago  2 sitt…",
+        ];
+        assert_eq!(halves_of(&mut halves)[1], expected);
+    }
+
+    #[test]
+    fn in_the_usual_terminal_one_half_at_a_time() {
+        let mut halves = Halves::new(80, Faults::default(), 1, Instant::now());
+        let first = halves.full();
+        halves.arrive(first);
+        b"WARD 7".iter().for_each(|&ch| assert_eq!(halves.input(Input::Key(Key::Char(ch)), USUAL), Then::GoOn));
+        let candidate = shown(&mut halves, USUAL);
+        assert!(candidate[0].starts_with("CANDIDATE  sitting 1  call 6") && candidate[0].ends_with("Ctrl-G: help"), "{}", candidate[0]);
+        assert_eq!((candidate[1].as_str(), candidate[19].starts_with("1LIST")), ("WARD 7", true));
+        assert!(candidate[20].ends_with("▼ 6 rows below") && candidate[23].starts_with("Ctrl-T: mirror"), "{}", candidate.join("\n"));
+        halves.input(Input::Other, USUAL);
+        let mirror = shown(&mut halves, USUAL);
+        assert!(mirror[0].starts_with("INVIGILATOR  sitting 1") && mirror[23].starts_with("Ctrl-T: candidate"), "{}", mirror.join("\n"));
+        assert_eq!(mirror[1..20], candidate[1..20]);
+        assert_eq!(halves.canvas(USUAL).cursor, Some((1, 6)));
+        // In a wider one both are in sight, whichever was before.
+        let both = shown(&mut halves, Size { cols: 161, rows: 24 });
+        assert!(both[0].starts_with("CANDIDATE") && both[0].contains("INVIGILATOR") && both[1].matches("WARD 7").count() == 2);
+    }
+
+    #[test]
+    fn the_other_width_is_asked_for() {
+        let mut halves = Halves::new(40, Faults::default(), 1, Instant::now());
+        let width = Input::Key(Key::Width);
+        halves.input(Input::Key(Key::Char(b'A')), BOTH);
+        halves.input(width, BOTH);
+        assert_eq!((halves.desk.screen.width(), shown(&mut halves, BOTH)[29].starts_with("Clear the screen?")), (40, true));
+        halves.input(width, BOTH);
+        assert_eq!((halves.desk.screen.width(), halves.half(BOTH)), (80, None), "and is shown a half at a time");
+        assert_eq!([Input::Leave; 2].map(|input| halves.input(input, BOTH)), [Then::GoOn, Then::Leave]);
     }
 
     #[test]
@@ -262,11 +362,12 @@ mod tests {
         let first = halves.full();
         halves.arrive(first);
         halves.tick().unwrap();
-        assert!(shown(&halves, 26, 41).starts_with("LEVEL, 0."));
+        assert!(halves_of(&mut halves)[1][1].starts_with("LEVEL, 0.") && !halves.rings());
         halves.turn(Input::Cut);
         halves.clock.slept(Duration::from_secs(3_600));
         halves.tick().unwrap();
-        assert_eq!(shown(&halves, 26, 41), "SILENT for 3600 s");
+        assert!(halves_of(&mut halves)[1][1].starts_with("SILENT for 3600 s"));
+        assert!(halves.rings() && !halves.rings(), "it rings once");
     }
 
     #[test]

@@ -1,10 +1,15 @@
 //! The invigilator's program, over UDP.
-use crate::canvas::{Canvas, Size, PLAIN, STRONG};
+use crate::candidate::HINT;
+use crate::canvas::{Canvas, Part, Size, PLAIN, RED, STRONG, YELLOW};
 use crate::clock::Clock;
+use crate::front::{Front, Page};
+use crate::help;
 use crate::keys::Key;
-use crate::terminal::{self, Input, Program};
+use crate::panel::{Area, Panel};
+use crate::terminal::{self, Input, Program, Then};
 use crate::udp::{drain, socket_at};
-use crate::view::{self, View, HELP_BACK};
+use crate::view::{self, Alarm, View, HINT_BACK};
+use crate::window::Window;
 use crate::witness::Witnesses;
 use futonrobin::{KeyTable, Shown};
 use line::fresh::seconds;
@@ -15,10 +20,6 @@ use std::net::{SocketAddr, UdpSocket};
 use std::thread::sleep;
 use std::time::{Duration, Instant};
 
-/// The four lines under the mirror need 80 columns, whatever its width.
-const NEEDED: Size = Size { cols: 80, rows: 25 + 4 };
-const HELP: &str = "Ctrl-Q leaves; PageUp shows the last screen of the sitting before";
-
 /// With keys from a file: how long to wait for something new, and for that when the last screen is shown.
 const PATIENCE: Duration = Duration::from_secs(30);
 const LAST: Duration = Duration::from_millis(500);
@@ -26,6 +27,9 @@ const LAST: Duration = Duration::from_millis(500);
 struct Invigilator {
     end: line::Invigilator,
     view: View,
+    alarm: Alarm,
+    front: Front,
+    window: Window,
     socket: UdpSocket,
     listen: SocketAddr,
     table: KeyTable,
@@ -37,7 +41,9 @@ impl Invigilator {
     fn new(listen: SocketAddr, shared: &SharedKey) -> io::Result<Self> {
         let (socket, mut clock) = (socket_at(listen)?, Clock::new());
         let (listen, now) = (socket.local_addr()?, clock.now());
-        Ok(Self { end: line::Invigilator::new(shared), view: View::default(), socket, listen, table: KeyTable::standard(), clock, now })
+        let (end, table) = (line::Invigilator::new(shared), KeyTable::standard());
+        let (view, alarm, front, window) = (View::default(), Alarm::default(), Front::new(false), Window::default());
+        Ok(Self { end, view, alarm, front, window, socket, listen, table, clock, now })
     }
 
     /// Takes what has come, hands on each report with where it came from, and asks.
@@ -58,24 +64,42 @@ impl Invigilator {
         Ok(())
     }
 
-    fn paint(&self, canvas: &mut Canvas) {
+    fn paint(&mut self, canvas: &mut Canvas) {
+        if self.front.page() == Some(Page::Help) {
+            return help::page(canvas, "INVIGILATOR: THE KEYS", [help::INVIGILATOR, &[]]);
+        }
         let follower = &self.end.follower;
-        if let Some(mirror) = self.view.screen(follower) {
-            canvas.screen(0, 0, mirror, &self.table);
-            let (row, col) = mirror.cursor();
-            canvas.cursor = Some((row as usize, col as usize));
-        }
-        let [first, mut second, third, older] = self.view.lines(follower, self.now);
-        if follower.state(self.now) == State::Waiting {
-            let unopened = if self.end.counts.garbage > 0 { "; what comes does not open under this key" } else { "" };
-            second = (format!("listening at {}{unopened}", self.listen), STRONG);
-        }
-        canvas.parts(25, 0, &[self.view.title(follower), first]);
-        canvas.parts(26, 0, &[second, third]);
-        canvas.parts(27, 0, &[older, (self.counts(), PLAIN)]);
-        canvas.text(28, 0, if self.view.earlier(follower).is_some() { HELP_BACK } else { HELP }, PLAIN);
+        let (status, title, shown) = (self.status(), self.view.title(follower), self.view.screen(follower));
+        let hint = if self.view.earlier(follower).is_some() { HINT_BACK } else { HINT };
+        let panel = Panel { title, hint, shown, status, table: &self.table };
+        let area = Area { left: 0, cols: canvas.size.cols, rows: canvas.size.rows };
+        canvas.cursor = panel.paint(canvas, area, &mut self.window).cursor;
     }
 
+    fn status(&self) -> Vec<Vec<Part>> {
+        let [first, second, third] = self.view.status(&self.end.follower, self.now);
+        vec![first, [self.address(), second].concat(), [self.troubles(), third].concat()]
+    }
+
+    /// Where it listens, while nobody is heard.
+    fn address(&self) -> Vec<Part> {
+        if self.end.follower.state(self.now) != State::Waiting {
+            return Vec::new();
+        }
+        let unopened = (self.end.counts.garbage > 0).then(|| ("what comes does not open under this key".into(), RED));
+        [(format!("listening at {}", self.listen), STRONG)].into_iter().chain(unopened).collect()
+    }
+
+    /// What should not be, and what the person at the window should know.
+    fn troubles(&self) -> Vec<Part> {
+        let Counts { twice, garbage, .. } = self.end.counts;
+        let twice = (twice > 0).then(|| (format!("SITTING USED TWICE: {twice} datagrams"), RED));
+        let garbage = (garbage > 0).then(|| (format!("unreadable datagrams: {garbage}"), PLAIN));
+        let by_hand = self.window.is_moved_by_hand().then(|| ("Home: to the cursor".into(), YELLOW));
+        twice.into_iter().chain(by_hand).chain(garbage).collect()
+    }
+
+    /// The counts, for a run without a terminal.
     fn counts(&self) -> String {
         let Counts { arrived, older, twice, garbage } = self.end.counts;
         let twice = if twice > 0 { format!("SITTING USED TWICE {twice}, ") } else { String::new() };
@@ -88,16 +112,35 @@ impl Program for Invigilator {
         self.pass(|_, _| ())
     }
 
-    fn canvas(&self, size: Size) -> Canvas {
-        Canvas::if_it_fits(NEEDED, size, |canvas| self.paint(canvas))
+    fn canvas(&mut self, size: Size) -> Canvas {
+        self.front.too_small(size).unwrap_or_else(|| {
+            let mut canvas = Canvas::new(size);
+            self.paint(&mut canvas);
+            canvas
+        })
     }
 
-    fn input(&mut self, input: Input, _: Size) {
-        match input {
-            Input::Back => self.view.back(&self.end.follower),
-            Input::Forth => self.view.forth(&self.end.follower),
+    fn input(&mut self, input: Input, size: Size) -> Then {
+        // There is no page of submitted lines here, and no function key types anything.
+        let input = match input {
+            Input::Submitted => return Then::GoOn,
+            Input::Key(Key::Function(1)) => Input::Help,
+            _ => input,
+        };
+        match self.front.take(input, size) {
+            Some(Input::Leave) => return Then::Leave,
+            Some(Input::Back) => self.view.back(&self.end.follower),
+            Some(Input::Forth) => self.view.forth(&self.end.follower),
+            Some(Input::Key(Key::Up)) => self.window.up(),
+            Some(Input::Key(Key::Down)) => self.window.down(),
+            Some(Input::Key(Key::Home)) => self.window.follow(),
             _ => {}
         }
+        Then::GoOn
+    }
+
+    fn rings(&mut self) -> bool {
+        self.alarm.rings(self.end.follower.state(self.now))
     }
 }
 
@@ -190,33 +233,43 @@ impl Watch {
 mod tests {
     use super::*;
     use crate::samples::{screen, Candidates};
+    use futonrobin::Screen;
 
     const LAST: u32 = u32::MAX;
+    const USUAL: Size = Size { cols: 80, rows: 24 };
 
     fn listening() -> (Invigilator, Candidates) {
         let shared = SharedKey::draw();
         (Invigilator::new(([127, 0, 0, 1], 0).into(), &shared).unwrap(), Candidates::new(shared))
     }
 
-    /// The rows under the mirror in the smallest terminal, so much later.
+    fn shown(invigilator: &mut Invigilator, size: Size) -> Vec<String> {
+        let canvas = invigilator.canvas(size);
+        (0..size.rows).map(|row| canvas.line(row)).collect()
+    }
+
+    /// The title, and the rows under the mirror in a terminal in which it has room, so much later.
     fn rows(invigilator: &mut Invigilator, later: Duration) -> [String; 4] {
-        let mut canvas = Canvas::new(NEEDED);
         invigilator.now += later;
-        invigilator.paint(&mut canvas);
+        let rows = shown(invigilator, Size { cols: 80, rows: 29 });
         invigilator.now -= later;
-        [25, 26, 27, 28].map(|row| canvas.row(row).iter().map(|spot| spot.ch).collect::<String>().trim_end().into())
+        [0, 26, 27, 28].map(|row| rows[row].clone())
+    }
+
+    fn titled(left: &str, right: &str) -> String {
+        format!("{left:<width$}{right}", width = 80 - right.len())
     }
 
     #[test]
     fn where_it_listens() {
         let (mut invigilator, _) = listening();
         let at = format!("listening at {}", invigilator.listen);
-        let expected = ["INVIGILATOR  WAITING for a candidate", &at, "arrived 0, older 0, garbage 0", HELP];
-        assert_eq!(rows(&mut invigilator, Duration::ZERO), expected);
+        let title = titled("INVIGILATOR", HINT);
+        assert_eq!(rows(&mut invigilator, Duration::ZERO), [&title, "WAITING for a candidate", &at, ""]);
         let (now, mut another) = (invigilator.now, Candidates::new(SharedKey::draw()));
         another.full(&mut invigilator.end, &screen(5, 3), now);
-        let (at, told) = (at + "; what comes does not open under this key", rows(&mut invigilator, Duration::ZERO));
-        assert_eq!(told[..3], ["INVIGILATOR  WAITING for a candidate", &at, "arrived 0, older 0, garbage 1"]);
+        let at = at + "  what comes does not open under this key";
+        assert_eq!(rows(&mut invigilator, Duration::ZERO)[1..], ["WAITING for a candidate", &at, "unreadable datagrams: 1"]);
     }
 
     #[test]
@@ -224,45 +277,55 @@ mod tests {
         let (mut invigilator, mut candidates) = listening();
         let now = invigilator.now;
         candidates.full(&mut invigilator.end, &screen(5, 3), now);
-        let expected = ["INVIGILATOR  sitting 5  LEVEL, 0.2 s", "m 3  n 3  1 sitting so far"];
-        assert_eq!(rows(&mut invigilator, Duration::from_millis(150))[..2], expected);
-        let expected = ["INVIGILATOR  sitting 5  OLD", "the screen of 2.5 s ago  m 3  n 3  1 sitting so far"];
-        assert_eq!(rows(&mut invigilator, Duration::from_millis(2_500))[..2], expected);
-        let expected = ["INVIGILATOR  sitting 5  SILENT for 60 s", "the screen of 60 s ago  m 3  n 3  1 sitting so far"];
-        assert_eq!(rows(&mut invigilator, Duration::from_secs(60))[..2], expected);
+        let (title, calls) = (titled("INVIGILATOR  sitting 5", HINT), "shows call 3 of 3  room for 255");
+        let told = |state: &str| [title.clone(), state.into(), calls.into(), "1 sitting so far".into()];
+        assert_eq!(rows(&mut invigilator, Duration::from_millis(150)), told("LEVEL, 0.2 s"));
+        assert_eq!(rows(&mut invigilator, Duration::from_millis(2_500)), told("OLD  the screen of 2.5 s ago"));
+        assert_eq!(rows(&mut invigilator, Duration::from_secs(60)), told("SILENT for 60 s  the screen of 60 s ago"));
     }
 
     #[test]
-    fn the_largest_numbers_in_the_smallest_terminal() {
+    fn the_largest_numbers() {
         let (mut invigilator, mut candidates) = listening();
         let now = invigilator.now;
         candidates.full(&mut invigilator.end, &screen(LAST - 1, LAST), now);
         candidates.step(&mut invigilator.end, &screen(LAST, LAST), now);
         candidates.full(&mut invigilator.end, &screen(LAST - 1, LAST), now);
-        invigilator.end.counts = Counts { arrived: 1_234_567, older: 123_456, twice: 0, garbage: 10 };
         let expected = [
-            "INVIGILATOR  sitting 4294967294  BEGUN: sitting 4294967295",
-            "the screen of 4.0 s ago  no full report  2 sittings so far",
-            "older sitting 4294967294 heard 4.0 s ago  arrived 1234567, older 123456, garbag…",
-            HELP,
+            &titled("INVIGILATOR  sitting 4294967294", HINT),
+            "BEGUN: sitting 4294967295  the screen of 4.0 s ago",
+            "no screen of it came yet  line full",
+            "older sitting 4294967294 heard 4.0 s ago  2 sittings so far",
         ];
         assert_eq!(rows(&mut invigilator, Duration::from_secs(4)), expected);
         let silent = rows(&mut invigilator, Duration::from_secs(9_999_999));
-        assert_eq!(silent[0], "INVIGILATOR  sitting 4294967294  SILENT for 9999999 s, BEGUN: sitting 4294967295");
-        invigilator.end.counts.twice = 9_999;
-        let twice = "older sitting 4294967294 heard 4.0 s ago  SITTING USED TWICE 9999, arrived 1234…";
-        assert_eq!(rows(&mut invigilator, Duration::from_secs(4))[2], twice);
+        assert_eq!(silent[1], "SILENT for 9999999 s  BEGUN: sitting 4294967295  the screen of 9999999 s ago");
+        (invigilator.end.counts.twice, invigilator.end.counts.garbage) = (9_999, 1_234_567);
+        let twice = rows(&mut invigilator, Duration::from_secs(4));
+        let expected = [
+            "BEGUN: sitting 4294967295  the screen of 4.0 s ago  no screen of it came yet",
+            "line full  SITTING USED TWICE: 9999 datagrams  unreadable datagrams: 1234567",
+            "older sitting 4294967294 heard 4.0 s ago  2 sittings so far",
+        ];
+        assert_eq!(twice[1..], expected);
     }
 
     #[test]
-    fn a_machine_that_slept_wakes_with_an_old_screen() {
+    fn a_machine_that_slept_wakes_with_an_old_screen_and_rings() {
         let (mut invigilator, mut candidates) = listening();
         let now = invigilator.now;
         candidates.full(&mut invigilator.end, &screen(5, 3), now);
+        assert!(!invigilator.rings());
         invigilator.clock.slept(Duration::from_secs(3_600));
         invigilator.tick().unwrap();
-        let [first, second, ..] = rows(&mut invigilator, Duration::ZERO);
-        assert!(first.ends_with("SILENT for 3600 s") && second.starts_with("the screen of 360"), "{first}; {second}");
+        let [_, state, ..] = rows(&mut invigilator, Duration::ZERO);
+        assert!(state.starts_with("SILENT for 3600 s  the screen of 360"), "{state}");
+        assert!(invigilator.rings() && !invigilator.rings(), "once");
+        let now = invigilator.now;
+        candidates.full(&mut invigilator.end, &screen(5, 4), now);
+        assert!(!invigilator.rings());
+        invigilator.now += Duration::from_secs(5);
+        assert!(invigilator.rings(), "and once more");
     }
 
     #[test]
@@ -273,13 +336,41 @@ mod tests {
             candidates.full(&mut invigilator.end, &screen(pair.0, pair.1), now);
         }
         candidates.step(&mut invigilator.end, &screen(LAST, LAST), now);
-        invigilator.input(Input::Back, NEEDED);
+        invigilator.input(Input::Back, USUAL);
         let expected = [
-            "NOT CURRENT: sitting 4294967294  call 4294967295 of 4294967295",
-            "now BEHIND by 3294967295  the screen of 0.0 s ago  sitting 4294967295  m 100000…",
-            "arrived 3, older 0, garbage 0",
-            HELP_BACK,
+            &titled("NOT CURRENT: sitting 4294967294", HINT_BACK),
+            "call 4294967295 of 4294967295  now BEHIND by 3294967295  the screen of 0.0 s ago",
+            "sitting 4294967295  shows call 1000000000 of 4294967295  2 sittings so far",
+            "line full",
         ];
         assert_eq!(rows(&mut invigilator, Duration::ZERO), expected);
+    }
+
+    #[test]
+    fn modes_continuation_and_a_window_by_hand() {
+        let (mut invigilator, mut candidates) = listening();
+        let (now, mut typed) = (invigilator.now, Screen::new(80, 5));
+        (0..23).for_each(|row| typed.print_bytes(format!("ROW {row}\r").as_bytes()).unwrap());
+        typed.print_bytes(b"LAST").unwrap();
+        typed.set_insert(true).unwrap();
+        typed.set_cursor(21, 3).unwrap();
+        typed.ctrl_enter().unwrap();
+        candidates.full(&mut invigilator.end, &typed, now);
+        let rows = shown(&mut invigilator, USUAL);
+        assert!(rows[0].ends_with("▲ 4 rows above  Ctrl-G: help") && rows[21].ends_with("▼ 1 row below"), "{}", rows.join("\n"));
+        assert_eq!((rows[1].as_str(), rows[19].as_str()), ("ROW 4", "ROW 22"));
+        assert!(rows[22].ends_with("INSERT  room for 169  line in rows 22 to 23"), "{}", rows[22]);
+        assert!(invigilator.canvas(USUAL).row(18)[79].underlined);
+        for _ in 0..2 {
+            invigilator.input(Input::Key(Key::Up), USUAL);
+        }
+        let rows = shown(&mut invigilator, USUAL);
+        assert_eq!((rows[1].as_str(), invigilator.canvas(USUAL).cursor), ("ROW 2", None));
+        assert!(rows[23].starts_with("Home: to the cursor"), "{}", rows[23]);
+        invigilator.input(Input::Key(Key::Home), USUAL);
+        assert_eq!(invigilator.canvas(USUAL).cursor, Some((19, 0)));
+        invigilator.input(Input::Key(Key::Function(1)), USUAL);
+        assert_eq!(shown(&mut invigilator, USUAL)[0], "INVIGILATOR: THE KEYS");
+        assert_eq!([Input::Key(Key::Char(b'A')), Input::Leave].map(|input| invigilator.input(input, USUAL)), [Then::GoOn, Then::Leave]);
     }
 }

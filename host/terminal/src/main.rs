@@ -14,6 +14,10 @@ fn main() {
             print!("{}", arguments::HELP);
             Ok(true)
         }
+        Asked::Version => {
+            println!("{}", arguments::VERSION);
+            Ok(true)
+        }
         Asked::Key(file) => key_file::make(&file).map(|()| {
             println!("{} holds a new key; the other end needs a copy, and whoever else has one can forge", file.display());
             true
@@ -61,9 +65,9 @@ fn run(Arguments { place, key, width, faults, seed, sitting, keys }: Arguments) 
     })
 }
 
-/// Both screens, as wide as the terminal has room for.
+/// Both screens, as wide as the terminal has room for side by side; where it has none, one at a time.
 fn both(width: Option<u32>, faults: Faults, seed: u64) -> io::Result<bool> {
-    let widest = if terminal::terminal::size()?.cols > 160 { 80 } else { 40 };
+    let widest = if (81..161).contains(&terminal::terminal::size()?.cols) { 40 } else { 80 };
     halves::in_terminal(width.unwrap_or(widest), faults, seed)?;
     Ok(true)
 }

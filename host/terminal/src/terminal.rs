@@ -1,25 +1,34 @@
 //! The terminal, by crossterm: raw mode, the alternate screen, colours; and what is pressed there.
-use crate::canvas::{differing, Canvas, Size};
+use crate::canvas::{differing, Canvas, Size, Spot};
 use crate::glyphs;
 use crate::keys::Key;
 use crossterm::cursor::{Hide, MoveTo, Show};
 use crossterm::event::{self, Event, KeyCode, KeyEvent, KeyEventKind, KeyModifiers};
 use crossterm::event::{KeyboardEnhancementFlags, PopKeyboardEnhancementFlags, PushKeyboardEnhancementFlags};
-use crossterm::style::{Color, Print, ResetColor, SetBackgroundColor, SetForegroundColor};
+use crossterm::style::{Attribute, Color, Print, ResetColor, SetAttribute, SetBackgroundColor, SetForegroundColor};
 use crossterm::terminal::{self, Clear, ClearType, EnterAlternateScreen, LeaveAlternateScreen};
 use crossterm::{execute, queue};
-use signal_hook::consts::{SIGINT, SIGTERM};
+use signal_hook::consts::{SIGHUP, SIGINT, SIGTERM};
 use signal_hook::flag;
+use signal_hook::iterator::Signals;
+use std::env;
 use std::io::{self, BufWriter, Stdout, Write};
 use std::panic;
+use std::process;
 use std::sync::atomic::{AtomicBool, Ordering};
 use std::sync::Arc;
+use std::thread::{self, sleep};
 use std::time::Duration;
 
 #[derive(Clone, Copy, PartialEq, Eq, Debug)]
 pub enum Input {
     Key(Key),
     Leave,
+    /// The page of keys, and that of the submitted lines.
+    Help,
+    Submitted,
+    /// The other half of what has no room side by side.
+    Other,
     /// The simulated line: the next percentage of each fault, and cut or joined.
     Loss,
     Repeat,
@@ -31,29 +40,45 @@ pub enum Input {
     Back,
     Forth,
     Resized(Size),
+    /// The program is asked to end from outside.
+    Ended,
+}
+
+#[derive(Clone, Copy, PartialEq, Eq, Debug)]
+pub enum Then {
+    GoOn,
+    Leave,
 }
 
 /// A program in a terminal.
 pub trait Program {
     /// Time passes, and what has come is taken.
     fn tick(&mut self) -> io::Result<()>;
-    fn canvas(&self, size: Size) -> Canvas;
+    fn canvas(&mut self, size: Size) -> Canvas;
     /// Something is pressed, in a terminal of this size.
-    fn input(&mut self, input: Input, size: Size);
+    fn input(&mut self, input: Input, size: Size) -> Then;
+    /// Whether the bell rings now.
+    fn rings(&mut self) -> bool {
+        false
+    }
 }
 
-/// Runs it until the key to leave is pressed.
+/// Runs it until it is left.
 pub fn run(program: &mut impl Program) -> io::Result<()> {
     let mut terminal = Terminal::enter()?;
     let mut size = size()?;
     loop {
         program.tick()?;
         terminal.show(program.canvas(size))?;
+        if program.rings() {
+            terminal.ring()?;
+        }
         for input in terminal.inputs(TICK)? {
             match input {
-                Input::Leave => return Ok(()),
+                Input::Ended => return Ok(()),
                 Input::Resized(new) => size = new,
-                _ => program.input(input, size),
+                _ if program.input(input, size) == Then::Leave => return Ok(()),
+                _ => {}
             }
         }
     }
@@ -67,11 +92,14 @@ pub fn size() -> io::Result<Size> {
 const TICK: Duration = Duration::from_millis(20);
 /// So many inputs are taken before the screen is shown again: a pasted text needs no painting for each key.
 const BATCH: usize = 256;
+/// So long a program whose terminal has hung up may take to leave by itself.
+const HUNG_UP: Duration = Duration::from_millis(500);
 
 /// While it lives the terminal is ours; what it was before comes back in any case, a panic and a request to end included.
 struct Terminal {
     out: BufWriter<Stdout>,
     shown: Option<Canvas>,
+    colours: bool,
     ended: Arc<AtomicBool>,
 }
 
@@ -83,12 +111,13 @@ impl Terminal {
             hook(why);
         }));
         let ended = Arc::new(AtomicBool::new(false));
-        // A terminal that is gone needs nothing back: SIGHUP ends the program as it is.
-        for signal in [SIGTERM, SIGINT] {
+        for signal in [SIGTERM, SIGINT, SIGHUP] {
             flag::register(signal, ended.clone())?;
         }
+        end_without_terminal()?;
         terminal::enable_raw_mode()?;
-        let mut terminal = Self { out: BufWriter::new(io::stdout()), shown: None, ended };
+        let colours = has_colours(env::var("NO_COLOR").ok().as_deref(), env::var("TERM").ok().as_deref());
+        let mut terminal = Self { out: BufWriter::new(io::stdout()), shown: None, colours, ended };
         // With these flags a terminal that knows them tells Ctrl-Enter from Enter; the others ignore them.
         let flags = PushKeyboardEnhancementFlags(KeyboardEnhancementFlags::DISAMBIGUATE_ESCAPE_CODES);
         execute!(terminal.out, EnterAlternateScreen, flags, Hide)?;
@@ -107,9 +136,10 @@ impl Terminal {
         }
         for row in 0..canvas.size.rows {
             let before = shown.as_ref().map(|shown| shown.row(row));
-            for (col, text, attr) in differing(before, canvas.row(row)) {
+            for (col, text, look) in differing(before, canvas.row(row)) {
                 queue!(self.out, MoveTo(col as u16, row as u16))?;
-                queue!(self.out, SetForegroundColor(colour(attr & 15)), SetBackgroundColor(colour(attr >> 4)), Print(text))?;
+                self.look(look)?;
+                queue!(self.out, Print(text))?;
             }
         }
         if let Some((row, col)) = canvas.cursor {
@@ -119,7 +149,28 @@ impl Terminal {
         self.out.flush()
     }
 
-    /// What is pressed, if something is within this time; leaving, if the program is asked to end.
+    /// What is printed next looks so. Without colours what is light on dark is bold, and what is dark on light is reversed.
+    fn look(&mut self, Spot { attr, underlined, .. }: Spot) -> io::Result<()> {
+        queue!(self.out, SetAttribute(Attribute::Reset))?;
+        if self.colours {
+            queue!(self.out, SetForegroundColor(colour(attr & 15)), SetBackgroundColor(colour(attr >> 4)))?;
+        } else if attr >> 4 > attr & 15 {
+            queue!(self.out, SetAttribute(Attribute::Reverse))?;
+        } else if attr & 8 > 0 {
+            queue!(self.out, SetAttribute(Attribute::Bold))?;
+        }
+        if underlined {
+            queue!(self.out, SetAttribute(Attribute::Underlined))?;
+        }
+        Ok(())
+    }
+
+    fn ring(&mut self) -> io::Result<()> {
+        queue!(self.out, Print('\x07'))?;
+        self.out.flush()
+    }
+
+    /// What is pressed, if something is within this time; that it has ended, if the program is asked to.
     fn inputs(&mut self, wait: Duration) -> io::Result<Vec<Input>> {
         let (mut inputs, mut wait) = (Vec::new(), wait);
         while inputs.len() < BATCH && event::poll(wait)? {
@@ -134,7 +185,7 @@ impl Terminal {
             wait = Duration::ZERO;
         }
         if self.ended.load(Ordering::Relaxed) {
-            inputs.push(Input::Leave);
+            inputs.push(Input::Ended);
         }
         Ok(inputs)
     }
@@ -150,6 +201,27 @@ fn restore() {
     // There is no one left to tell if this fails.
     let _ = execute!(io::stdout(), ResetColor, PopKeyboardEnhancementFlags, LeaveAlternateScreen, Show);
     let _ = terminal::disable_raw_mode();
+}
+
+/// A terminal that hangs up may still be there, and then the program leaves it as it was; one that is gone may hold the program in its wait for a key,
+/// from which it does not come back.
+fn end_without_terminal() -> io::Result<()> {
+    let mut hung_up = Signals::new([SIGHUP])?;
+    thread::spawn(move || {
+        if hung_up.forever().next().is_some() {
+            sleep(HUNG_UP);
+            restore();
+            process::exit(0);
+        }
+    });
+    Ok(())
+}
+
+/// Whether there are any, by `NO_COLOR`, which counts if it is not empty, and by the name of the terminal: the old ones of DEC have none, nor those
+/// that say so.
+fn has_colours(no_color: Option<&str>, term: Option<&str>) -> bool {
+    let none = |term: &str| term.is_empty() || term == "dumb" || term.starts_with("vt") || term.ends_with("-m") || term.ends_with("-mono");
+    no_color.is_none_or(str::is_empty) && !term.is_none_or(none)
 }
 
 /// The sixteen colours of a text attribute, as the terminal names them.
@@ -220,6 +292,9 @@ fn with_ctrl(code: KeyCode) -> Option<Input> {
         KeyCode::Char('k' | 'K') => Input::Key(Key::Strip),
         KeyCode::Char('w' | 'W') => Input::Key(Key::Width),
         KeyCode::Char('q' | 'Q') => Input::Leave,
+        KeyCode::Char('g' | 'G') => Input::Help,
+        KeyCode::Char('p' | 'P') => Input::Submitted,
+        KeyCode::Char('t' | 'T') => Input::Other,
         KeyCode::Char('l' | 'L') => Input::Loss,
         KeyCode::Char('r' | 'R') => Input::Repeat,
         KeyCode::Char('o' | 'O') => Input::Reorder,
@@ -277,12 +352,33 @@ mod tests {
         let (none, ctrl) = (KeyModifiers::NONE, KeyModifiers::CONTROL);
         let commands = [
             (KeyCode::Char('q'), ctrl, Input::Leave),
+            (KeyCode::Char('g'), ctrl, Input::Help),
+            (KeyCode::Char('p'), ctrl, Input::Submitted),
+            (KeyCode::Char('t'), ctrl, Input::Other),
             (KeyCode::Char('n'), ctrl, Input::Restart),
             (KeyCode::PageUp, none, Input::Back),
             (KeyCode::PageDown, none, Input::Forth),
         ];
         for (code, modifiers, input) in commands {
             assert_eq!(pressed(KeyEvent::new(code, modifiers)), [input], "{code:?} {modifiers:?}");
+        }
+    }
+
+    #[test]
+    fn terminals_without_colours() {
+        for (no_color, term, colours) in [
+            (None, Some("xterm-256color"), true),
+            (None, Some("linux"), true),
+            (Some(""), Some("screen"), true),
+            (Some("1"), Some("xterm"), false),
+            (None, Some("vt220"), false),
+            (None, Some("dumb"), false),
+            (None, Some("linux-m"), false),
+            (None, Some("xterm-mono"), false),
+            (None, Some(""), false),
+            (None, None, false),
+        ] {
+            assert_eq!(has_colours(no_color, term), colours, "{no_color:?} {term:?}");
         }
     }
 

@@ -1,12 +1,13 @@
 //! What the invigilator looks at, the mirror or the last screen of an earlier sitting; and the words beside it.
-use crate::canvas::{PLAIN, REVERSED, STRONG};
+use crate::canvas::{Part, GREEN, PLAIN, RED, REVERSED, STRONG, YELLOW};
+use crate::span;
 use futonrobin::{Mirror, Shown};
 use line::fresh::seconds;
-use line::{Follower, State};
+use line::{Follower, State, Word};
 use std::time::{Duration, Instant};
 
-/// What the keys do while an earlier screen is looked at.
-pub const HELP_BACK: &str = "PageDown leads back to the current screen, PageUp to the sitting before";
+/// What leads back while an earlier screen is looked at.
+pub const HINT_BACK: &str = "PageDown: back";
 
 /// Looks at the mirror, unless an earlier sitting is chosen.
 #[derive(Default)]
@@ -38,41 +39,71 @@ impl View {
     }
 
     /// Which sitting is looked at, in reverse if it is not the current one.
-    pub fn title(&self, follower: &Follower) -> (String, u8) {
+    pub fn title(&self, follower: &Follower) -> Vec<Part> {
         match (self.earlier(follower), follower.mirror()) {
-            (Some(earlier), _) => (format!("NOT CURRENT: sitting {}", earlier.sitting()), REVERSED),
-            (None, Some(mirror)) => (format!("INVIGILATOR  sitting {}", mirror.sitting()), STRONG),
-            (None, None) => ("INVIGILATOR".into(), STRONG),
+            (Some(earlier), _) => vec![(format!("NOT CURRENT: sitting {}", earlier.sitting()), REVERSED)],
+            (None, Some(mirror)) => vec![("INVIGILATOR".into(), STRONG), (format!("sitting {}", mirror.sitting()), STRONG)],
+            (None, None) => vec![("INVIGILATOR".into(), STRONG)],
         }
     }
 
-    /// What stands under the title: at the mirror its state, its age with its calls, and how many sittings there were; at an earlier screen its
-    /// calls, then these of the mirror, which goes on. In either case an older sitting that is still there.
-    ///
-    /// Half a terminal has 40 columns for each. Where that is not enough the end is cut, which is calls or a state's second word, and never the age.
-    pub fn lines(&self, follower: &Follower, now: Instant) -> [(String, u8); 4] {
-        let (state, age, calls) = (follower.state(now), follower.of_when(now), calls(follower, now));
-        let emphasis = if state.is_level() { PLAIN } else { STRONG };
-        let older = (older(follower, now), STRONG);
-        let with_age = |calls: String| if age.is_empty() { calls } else { format!("{age}  {calls}") };
+    /// What stands under the screen, in groups: at the mirror its state and age, its calls and modes, and the sittings; at an earlier screen its
+    /// calls, the mirror's state and age, which go on, and the rest.
+    pub fn status(&self, follower: &Follower, now: Instant) -> [Vec<Part>; 3] {
+        let (mut state, calls, sittings) = (state(follower, now), calls(follower, now), sittings(follower, now));
+        let modes = self.screen(follower).map_or(Vec::new(), span::words);
         match self.earlier(follower) {
-            None => [(state.to_string(), emphasis), (with_age(calls), emphasis), (how_many(follower), PLAIN), older],
+            None => [state, [calls, modes].concat(), sittings],
             Some(earlier) => {
-                let current = follower.shown().filter(|shown| follower.heard().is_some_and(|heard| heard.sitting == shown.sitting));
-                let of = current.map_or(String::new(), |shown| format!("sitting {}  ", shown.sitting));
-                [(calls_of(earlier), PLAIN), (format!("now {state}"), emphasis), (with_age(of + &calls), emphasis), older]
+                state[0].0.insert_str(0, "now ");
+                [vec![(calls_of(earlier), PLAIN)], state, [of_sitting(follower), calls, sittings, modes].concat()]
             }
         }
     }
 }
 
-/// m and n, which are of one sitting unless another has begun.
-fn calls(follower: &Follower, now: Instant) -> String {
-    match (follower.state(now), follower.shown(), follower.heard()) {
-        (State::Begun { .. }, ..) => "no full report".into(),
-        (_, Some(shown), Some(heard)) => format!("m {}  n {}", shown.serial, heard.serial),
-        _ => String::new(),
+/// Rings once for each time that the candidate falls silent.
+#[derive(Default)]
+pub struct Alarm {
+    silent: bool,
+}
+
+impl Alarm {
+    pub fn rings(&mut self, state: State) -> bool {
+        let before = std::mem::replace(&mut self.silent, state.is_silent());
+        self.silent && !before
     }
+}
+
+/// The words of the state, each in its colour, and the age of what is shown, unless that is said with them.
+fn state(follower: &Follower, now: Instant) -> Vec<Part> {
+    let words: Vec<_> = follower.state(now).words().into_iter().map(|(word, said)| (said, colour(word))).collect();
+    let age = Some(follower.of_when(now)).filter(|age| !age.is_empty()).map(|age| (age, words[0].1));
+    words.into_iter().chain(age).collect()
+}
+
+fn colour(word: Word) -> u8 {
+    match word {
+        Word::Waiting => STRONG,
+        Word::Level => GREEN,
+        Word::Old | Word::Behind | Word::Begun => YELLOW,
+        Word::Silent => RED,
+    }
+}
+
+/// The shown call and the newest, which are of one sitting unless another has begun.
+fn calls(follower: &Follower, now: Instant) -> Vec<Part> {
+    match (follower.state(now), follower.shown(), follower.heard()) {
+        (State::Begun { .. }, ..) => vec![("no screen of it came yet".into(), YELLOW)],
+        (_, Some(shown), Some(heard)) => vec![(format!("shows call {} of {}", shown.serial, heard.serial), PLAIN)],
+        _ => Vec::new(),
+    }
+}
+
+/// The mirror's sitting, where that is not the one that is looked at.
+fn of_sitting(follower: &Follower) -> Vec<Part> {
+    let current = follower.shown().filter(|shown| follower.heard().is_some_and(|heard| heard.sitting == shown.sitting));
+    current.map(|shown| (format!("sitting {}", shown.sitting), PLAIN)).into_iter().collect()
 }
 
 /// How far an earlier sitting is known, and how many calls of it were heard of.
@@ -85,25 +116,21 @@ pub fn last_screen(mirror: &Mirror) -> String {
     format!("sitting {}, {}", mirror.sitting(), calls_of(mirror))
 }
 
-fn how_many(follower: &Follower) -> String {
-    match follower.sittings() {
-        (0, _) => String::new(),
-        (1, _) => "1 sitting so far".into(),
-        (count, kept) if kept < count => format!("{count} sittings so far, {kept} kept"),
-        (count, _) => format!("{count} sittings so far"),
-    }
-}
-
-/// That a smaller sitting than the newest is still there, if one is.
-fn older(follower: &Follower, now: Instant) -> String {
-    let told = |(sitting, ago): (u32, Duration)| format!("older sitting {sitting} heard {} ago", seconds(ago));
-    follower.older_heard(now).map_or(String::new(), told)
+/// That a smaller sitting than the newest is still there, if one is; and how many there were.
+fn sittings(follower: &Follower, now: Instant) -> Vec<Part> {
+    let told = |(sitting, ago): (u32, Duration)| (format!("older sitting {sitting} heard {} ago", seconds(ago)), YELLOW);
+    let how_many = match follower.sittings() {
+        (0, _) => None,
+        (1, _) => Some("1 sitting so far".into()),
+        (count, kept) if kept < count => Some(format!("{count} sittings so far, {kept} kept")),
+        (count, _) => Some(format!("{count} sittings so far")),
+    };
+    follower.older_heard(now).map(told).into_iter().chain(how_many.map(|many| (many, PLAIN))).collect()
 }
 
 #[cfg(test)]
 mod tests {
     use super::*;
-    use crate::canvas::fitting;
     use crate::samples::{screen, Candidates};
     use futonrobin::Screen;
     use line::{Invigilator, SharedKey};
@@ -124,21 +151,30 @@ mod tests {
         String::from_utf8(view.screen(follower).unwrap().snapshot()).unwrap()
     }
 
-    fn lines(view: &View, follower: &Follower, now: Instant) -> [String; 4] {
-        view.lines(follower, now).map(|(line, _)| line)
+    fn title(view: &View, follower: &Follower) -> String {
+        joined(&view.title(follower))
+    }
+
+    fn joined(parts: &[Part]) -> String {
+        parts.iter().map(|(text, _)| text.as_str()).collect::<Vec<_>>().join("  ")
+    }
+
+    fn status(view: &View, follower: &Follower, now: Instant) -> [String; 3] {
+        view.status(follower, now).map(|group| joined(&group))
     }
 
     #[test]
     fn back_and_forth() {
         let now = Instant::now();
         let (follower, mut view) = (heard([3, 5, 9], now), View::default());
-        assert_eq!((text(&view, &follower), view.title(&follower)), ("9".into(), ("INVIGILATOR  sitting 9".into(), STRONG)));
-        assert_eq!(lines(&view, &follower, now), ["LEVEL, 0.0 s", "m 1  n 1", "3 sittings so far", ""]);
+        assert_eq!((text(&view, &follower), title(&view, &follower)), ("9".into(), "INVIGILATOR  sitting 9".into()));
+        assert_eq!(status(&view, &follower, now), ["LEVEL, 0.0 s", "shows call 1 of 1  room for 254", "3 sittings so far"]);
         view.forth(&follower);
         assert_eq!(text(&view, &follower), "9", "there is nothing after now");
         view.back(&follower);
-        assert_eq!((text(&view, &follower), view.title(&follower)), ("5".into(), ("NOT CURRENT: sitting 5".into(), REVERSED)));
-        assert_eq!(lines(&view, &follower, now), ["call 1 of 1", "now LEVEL, 0.0 s", "sitting 9  m 1  n 1", ""]);
+        assert_eq!((text(&view, &follower), view.title(&follower)), ("5".into(), vec![("NOT CURRENT: sitting 5".into(), REVERSED)]));
+        let back = ["call 1 of 1", "now LEVEL, 0.0 s", "sitting 9  shows call 1 of 1  3 sittings so far  room for 254"];
+        assert_eq!(status(&view, &follower, now), back);
         view.back(&follower);
         assert_eq!(text(&view, &follower), "3");
         view.back(&follower);
@@ -158,7 +194,7 @@ mod tests {
         assert_eq!(text(&view, &follower), "3", "it stays where it was");
         follower = heard(3..30, now);
         assert_eq!(text(&view, &follower), "29", "what is no longer kept is no longer looked at");
-        assert_eq!(lines(&view, &follower, now)[2], "27 sittings so far, 16 kept");
+        assert_eq!(status(&view, &follower, now)[2], "27 sittings so far, 16 kept");
     }
 
     #[test]
@@ -166,74 +202,44 @@ mod tests {
         let (follower, mut view) = (Follower::default(), View::default());
         view.back(&follower);
         assert!(view.screen(&follower).is_none());
-        assert_eq!(view.title(&follower).0, "INVIGILATOR");
-        assert_eq!(lines(&view, &follower, Instant::now()), ["WAITING for a candidate", "", "", ""]);
+        assert_eq!(title(&view, &follower), "INVIGILATOR");
+        assert_eq!(status(&view, &follower, Instant::now()), ["WAITING for a candidate", "", ""]);
     }
 
-    const LAST: u32 = u32::MAX;
-    const HALF: usize = 40;
-
-    /// A follower with sittings and serials of ten digits: an earlier sitting, a shown one, then a step of one and a full report of another.
-    fn with_largest(step: Option<(u32, u32)>, full: Option<(u32, u32)>, now: Instant) -> Follower {
+    #[test]
+    fn each_state_has_its_colour_and_two_are_both_told() {
+        let now = Instant::now();
         let shared = SharedKey::draw();
         let (mut invigilator, mut candidates) = (Invigilator::new(&shared), Candidates::new(shared));
-        for (sitting, serial) in [(LAST - 2, LAST), (LAST - 1, 1_000_000_000)] {
-            candidates.full(&mut invigilator, &screen(sitting, serial), now);
-        }
-        if let Some((sitting, serial)) = step {
-            candidates.step(&mut invigilator, &screen(sitting, serial), now);
-        }
-        if let Some((sitting, serial)) = full {
-            candidates.full(&mut invigilator, &screen(sitting, serial), now);
-        }
-        invigilator.follower
+        let told = |invigilator: &Invigilator, later| state(&invigilator.follower, now + Duration::from_millis(later));
+        let part = |text: &str, attr| (text.to_string(), attr);
+        assert_eq!(told(&invigilator, 0), [part("WAITING for a candidate", STRONG)]);
+        candidates.full(&mut invigilator, &screen(5, 3), now);
+        assert_eq!(told(&invigilator, 200), [part("LEVEL, 0.2 s", GREEN)]);
+        assert_eq!(told(&invigilator, 2_500), [part("OLD", YELLOW), part("the screen of 2.5 s ago", YELLOW)]);
+        candidates.step(&mut invigilator, &screen(5, 9), now);
+        assert_eq!(told(&invigilator, 200), [part("BEHIND by 6", YELLOW), part("the screen of 0.2 s ago", YELLOW)]);
+        let both = [part("SILENT for 7 s", RED), part("BEHIND by 6", YELLOW), part("the screen of 7.0 s ago", RED)];
+        assert_eq!(told(&invigilator, 7_000), both);
+        candidates.step(&mut invigilator, &screen(6, 1), now);
+        assert_eq!(told(&invigilator, 7_000)[..2], [part("SILENT for 7 s", RED), part("BEGUN: sitting 6", YELLOW)]);
     }
 
     #[test]
-    fn the_largest_numbers_fit_into_half_a_terminal() {
-        let now = Instant::now();
-        let (soon, long) = (now + Duration::from_secs(4), now + Duration::from_secs(9_999_999));
-        let begun = |now| with_largest(Some((LAST, 1)), Some((LAST - 2, LAST)), now);
-        let behind = |now| with_largest(Some((LAST - 1, LAST)), None, now);
-        let cases = [
-            // Only where both calls have ten digits they are cut, and seen to be cut.
-            (behind(now), soon, ["BEHIND by 3294967295", "the screen of 4.0 s ago  m 1000000000  …", "2 sittings so far", ""]),
-            (
-                behind(now),
-                long,
-                ["SILENT for 9999999 s, BEHIND by 3294967…", "the screen of 9999999 s ago  m 10000000…", "2 sittings so far", ""],
-            ),
-            (with_largest(None, None, now), now, ["LEVEL, 0.0 s", "m 1000000000  n 1000000000", "2 sittings so far", ""]),
-            (
-                begun(now),
-                soon,
-                [
-                    "BEGUN: sitting 4294967295",
-                    "the screen of 4.0 s ago  no full report",
-                    "3 sittings so far",
-                    "older sitting 4294967293 heard 4.0 s ago",
-                ],
-            ),
+    fn it_rings_once_for_each_silence() {
+        let quiet = |seconds| State::Shows { behind: 0, age: None, quiet: Duration::from_secs(seconds) };
+        let mut alarm = Alarm::default();
+        let states = [
+            State::Waiting,
+            quiet(0),
+            quiet(4),
+            quiet(5),
+            quiet(6),
+            quiet(0),
+            quiet(5),
+            State::Begun { sitting: 7, quiet: Duration::from_secs(6) },
+            quiet(0),
         ];
-        for (follower, now, expected) in cases {
-            let view = View::default();
-            assert_eq!(view.title(&follower).0, "INVIGILATOR  sitting 4294967294");
-            assert_eq!(lines(&view, &follower, now).map(|line| fitting(&line, HALF)), expected);
-        }
-    }
-
-    #[test]
-    fn the_largest_numbers_when_looking_back() {
-        let (mut view, now) = (View::default(), Instant::now());
-        let follower = with_largest(Some((LAST - 1, LAST)), None, now);
-        view.back(&follower);
-        assert_eq!(view.title(&follower).0, "NOT CURRENT: sitting 4294967293");
-        let shown = lines(&view, &follower, now).map(|line| fitting(&line, HALF));
-        // Sitting and calls are cut, and seen to be cut; the age never is.
-        assert_eq!(shown, ["call 4294967295 of 4294967295", "now BEHIND by 3294967295", "the screen of 0.0 s ago  sitting 429496…", ""]);
-        let follower = with_largest(Some((LAST, 1)), Some((LAST - 2, LAST)), now);
-        let begun =
-            ["now BEGUN: sitting 4294967295", "the screen of 0.0 s ago  no full report", "older sitting 4294967293 heard 0.0 s ago"];
-        assert_eq!(lines(&view, &follower, now)[1..], begun);
+        assert_eq!(states.map(|state| alarm.rings(state)), [false, false, false, true, false, false, true, false, false]);
     }
 }

@@ -68,8 +68,7 @@ fn what_is_replayed_is_never_level_while_the_candidate_types_nor_after_its_end()
     let asked = |shown: &Shown| number(shown, "heard ").is_some_and(|seconds| seconds >= 3.0);
     watch_until(&scene, asked, old);
     let (before, _) = scene.between.replayed();
-    scene.candidate.press("C-q");
-    scene.candidate.wait_for_end();
+    scene.candidate.leave();
     let silent = begun.elapsed().as_secs_f64() + 9.0;
     scene.watch("SILENT, nine seconds after its end", NEVER, |look| {
         old(look);
@@ -100,10 +99,9 @@ fn an_invigilator_started_anew_is_level_with_nothing_replayed_but_with_the_candi
     });
     // All the time its questions reach the candidate, and the answers are lost; it has heard nothing that the candidate said since.
     scene.candidate.wait("an old answer", |shown| {
-        shown.has("invigilator shows 8, heard ") && number(shown, "heard ").is_some_and(|seconds| seconds >= 5.0)
+        shown.has("the last one showed call 8 of 8") && number(shown, "NO INVIGILATOR HEARD for ").is_some_and(|seconds| seconds >= 5.0)
     });
-    scene.candidate.press("C-q");
-    scene.candidate.wait_for_end();
+    scene.candidate.leave();
 
     let Scene { between, invigilator, .. } = scene;
     between.both(Way::ReplayBeside);
@@ -121,6 +119,7 @@ fn an_invigilator_started_anew_is_level_with_nothing_replayed_but_with_the_candi
 /// Where a record has its serial (docs/ABI.md).
 const SERIAL: std::ops::Range<usize> = 9..13;
 const FORGED: &str = "FORGED";
+const UNREADABLE: &str = "unreadable datagrams: ";
 const LAST: u32 = u32::MAX;
 
 fn forged_screen(sitting: u32, serial: u32) -> Screen {
@@ -169,13 +168,13 @@ fn forged_reports_are_counted_as_garbage_and_the_candidate_stays_level() {
         scene.between.forge(datagram);
         scene.watch("one more piece of garbage", NEVER, |look| {
             genuine(look);
-            number(&look.shown, "garbage ") == Some(before as f64 + 1.0)
+            number(&look.shown, UNREADABLE) == Some(before as f64 + 1.0)
         });
     }
     scene.types(3);
     scene.watch("LEVEL with what is typed then", NEVER, |look| {
         genuine(look);
-        look.is_level_with_all() && look.says("m 8  n 8") && look.says("1 sitting so far")
+        look.is_level_with_all() && look.says("shows call 8 of 8") && look.says("1 sitting so far")
     });
 }
 
@@ -186,8 +185,8 @@ fn a_forged_first_report_leaves_the_invigilator_waiting() {
     let forged = forgeries(5);
     for (before, datagram) in forged.iter().enumerate() {
         between.forge(datagram);
-        let shown = invigilator.wait("one more piece of garbage", |shown| number(shown, "garbage ") == Some(before as f64 + 1.0));
-        assert!(shown.has("WAITING for a candidate") && shown.lines[..25].iter().all(|line| line.is_empty()), "{}", shown.lines.join("\n"));
+        let shown = invigilator.wait("one more piece of garbage", |shown| number(shown, UNREADABLE) == Some(before as f64 + 1.0));
+        assert!(shown.has("WAITING for a candidate") && shown.lines[1..26].iter().all(|line| line.is_empty()), "{}", shown.lines.join("\n"));
     }
     assert!(between.asked().is_empty(), "nobody is asked");
 }
@@ -209,11 +208,11 @@ fn what_another_pair_of_programs_says_under_its_key_is_garbage() {
     asked.iter().for_each(|datagram| scene.between.forge_back(datagram));
     scene.watch("all of it counted", NEVER, |look| {
         assert!(look.length <= 5, "{}", look.shown.lines.join("\n"));
-        number(&look.shown, "garbage ") == Some(said.len() as f64)
+        number(&look.shown, UNREADABLE) == Some(said.len() as f64)
     });
     scene.types(3);
     scene.watch("LEVEL with what is typed then", NEVER, |look| look.is_level_with_all() && look.says("1 sitting so far"));
-    scene.candidate.wait_for("invigilator shows 8, heard 0.");
+    scene.candidate.wait_for("the invigilator shows call 8 of 8  heard 0.");
 }
 
 /// IPv6 carries so much whole everywhere, and Ethernet so much of IPv4.
@@ -241,7 +240,7 @@ fn where_longer_datagrams_are_dropped_the_screen_is_level_throughout() {
         between.both(Way::UpTo(most));
         wait("what was typed while the line was cut", &|shown| shown.has(&last));
         candidate.press("C-Home");
-        wait("a clear screen", &|shown| shown.lines[..24].iter().all(|line| line.trim().is_empty()));
+        wait("a clear screen", &|shown| shown.rows(1, 0, 80)[..24].iter().all(|row| row.is_empty()));
         candidate.write("AND ON");
         wait("what is typed on it", &|shown| first_row(shown) == "AND ON");
     }
@@ -265,7 +264,7 @@ fn type_lines(candidate: &Pane, random: &mut Rand32, lines: usize) -> String {
 fn wait_for_both(candidate: &Pane, invigilator: &Pane, what: &str, typed: &dyn Fn(&Shown) -> bool) {
     invigilator.wait(what, |shown| {
         let own = candidate.shown();
-        typed(&own) && shown.has("LEVEL, ") && shown.rows(0, 0, 80) == own.rows(0, 0, 80)
+        typed(&own) && shown.has("LEVEL, ") && shown.rows(1, 0, 80) == own.rows(1, 0, 80)
     });
 }
 

@@ -76,6 +76,14 @@ impl Pane {
         self.tmux(&[&["send-keys"], &keys[..]].concat());
     }
 
+    /// Leaves a screen on which something was typed.
+    pub fn leave(&self) {
+        self.press("C-q");
+        self.wait_for("Ctrl-Q again leaves");
+        self.press("C-q");
+        self.wait_for_end();
+    }
+
     pub fn write(&self, text: &str) {
         self.tmux(&["send-keys", "-l", text]);
     }

@@ -3,7 +3,7 @@ use crate::folder::Folder;
 use crate::pane::{key, Pane, Shown};
 use std::net::UdpSocket;
 
-/// The smallest terminal.
+/// A terminal in which a whole screen has room.
 pub const COLS: usize = 80;
 pub const ROWS: usize = 29;
 
@@ -28,7 +28,7 @@ fn candidate(name: &str, port: u16, more: &str) -> Pane {
 }
 
 pub fn first_row(shown: &Shown) -> &str {
-    shown.lines[0].trim_end()
+    shown.lines[1].trim_end()
 }
 
 #[test]
@@ -37,15 +37,15 @@ fn over_udp() {
     let first = candidate("first", port, "");
     first.write("40 WARD 9, BED 3");
     invigilator.wait("what is typed, and LEVEL", |shown| first_row(shown) == "40 WARD 9, BED 3" && shown.has("LEVEL"));
-    first.wait_for("invigilator shows 16");
-    invigilator.wait_for_cursor(0, 16);
+    first.wait_for("the invigilator shows call 16 of 16");
+    invigilator.wait_for_cursor(1, 16);
     invigilator.wait_for("1 sitting so far");
 
     let garbage = UdpSocket::bind("127.0.0.1:0").unwrap();
     for bytes in [&b""[..], b"no report", &[0; 5000]] {
         garbage.send_to(bytes, ("127.0.0.1", port)).unwrap();
     }
-    invigilator.wait("garbage counted, and nothing shown of it", |shown| shown.has("garbage 3") && first_row(shown) == "40 WARD 9, BED 3");
+    invigilator.wait("garbage counted, and nothing shown of it", |shown| shown.has("unreadable datagrams: 3") && first_row(shown) == "40 WARD 9, BED 3");
 
     drop(first);
     invigilator.wait_for("SILENT for");
@@ -54,18 +54,18 @@ fn over_udp() {
     invigilator.wait("the new sitting, and LEVEL", |shown| {
         first_row(shown) == "AFTER A RESTART" && shown.has("LEVEL") && shown.has("2 sittings so far")
     });
-    second.wait_for("invigilator shows 15");
+    second.wait_for("the invigilator shows call 15 of 15");
 
     invigilator.press("PPage");
     let past = invigilator.wait("the earlier screen", |shown| first_row(shown) == "40 WARD 9, BED 3" && shown.has("NOT CURRENT: sitting"));
-    assert!(past.has("call 16 of 16") && past.has("PageDown leads back") && past.has("now "));
+    assert!(past.has("call 16 of 16") && past.has("PageDown: back") && past.has("now "));
     second.write("!");
     invigilator.wait("the mirror follows meanwhile", |shown| {
-        first_row(shown) == "40 WARD 9, BED 3" && shown.has("now LEVEL") && shown.has("m 16  n 16")
+        first_row(shown) == "40 WARD 9, BED 3" && shown.has("now LEVEL") && shown.has("shows call 16 of 16")
     });
     invigilator.press("NPage");
     invigilator.wait("the current screen", |shown| first_row(shown) == "AFTER A RESTART!" && !shown.has("NOT CURRENT"));
-    second.press("C-q");
+    second.leave();
 }
 
 #[test]
@@ -89,25 +89,32 @@ fn what_there_is_to_know_about_a_sitting() {
         let program = format!("env XDG_STATE_HOME={state} {screens} candidate --to 127.0.0.1:9 --key {key}");
         Pane::start(name, COLS, rows, &program)
     };
-    // No folder can be made under a file: two notices, and no room but with the row of help.
-    let unkept = elsewhere("unkept", ROWS, "/dev/null");
-    unkept.wait("both notices", |shown| shown.has("may be no larger than the last one") && shown.has("is NOT KEPT: the next one here"));
+    // No folder can be made under a file: two notices, for which the screen makes room until something is typed.
+    let unkept = elsewhere("unkept", 24, "/dev/null");
+    let both = |shown: &Shown| shown.has("may be no larger than the last one") && shown.has("is NOT KEPT: the next one here");
+    unkept.wait("both notices", both);
     unkept.write("A");
-    unkept.wait("help, and the first", |shown| shown.has("Ctrl-Q leaves") && shown.has("may be no larger than the last one"));
+    unkept.wait("the screen", |shown| first_row(shown) == "A" && !shown.has("NOT KEPT"));
+    unkept.press("C-p");
+    unkept.wait("both on the page of submitted lines", both);
     // The path is longer than a row, and no letter of it is lost.
     let folder = Folder::new(&"long-".repeat(20));
     let state = folder.0.to_str().unwrap();
     let first = elsewhere("first-known", ROWS + 9, state);
     let shown = first.wait_for("is the first one known here: one used before may be larger");
     let after = shown.lines.iter().skip_while(|line| !line.contains("is the first one known here")).skip(1);
-    let why: String = after.map(|line| line.trim()).collect();
+    let why: String = after.take_while(|line| line.starts_with("  ")).map(|line| line.trim()).collect();
     assert_eq!(why.replace(' ', ""), format!("therewasno{state}/futonrobin/sitting"));
 }
 
 #[test]
 fn too_small_for_a_screen() {
-    let invigilator = Pane::over_udp("small", 60, 20, "invigilator --listen 127.0.0.1:0");
-    invigilator.wait_for("The terminal is too small");
-    invigilator.resize(80, 30);
+    let invigilator = Pane::over_udp("small", 79, 24, "invigilator --listen 127.0.0.1:0");
+    invigilator.wait("that it is, and what is needed", |shown| {
+        shown.has("The terminal is too small: it has 79 columns and 24 rows, and 80 and 18 are needed.")
+    });
+    invigilator.resize(80, 17);
+    invigilator.wait_for("it has 80 columns and 17 rows");
+    invigilator.resize(80, 18);
     invigilator.wait_for("WAITING for a candidate");
 }
