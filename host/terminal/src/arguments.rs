@@ -69,14 +69,12 @@ pub fn read(words: impl IntoIterator<Item = String>) -> Result<Asked, String> {
     arguments.place = match (program.as_deref(), address) {
         (None, _) => Place::Both,
         (Some("candidate" | "invigilator"), Some(place)) => place,
-        (Some("candidate"), None) => return Err("an address to send to is missing: ./run candidate --to HOST:PORT --key FILE".into()),
-        (Some("invigilator"), None) => {
-            return Err("an address to listen on is missing: ./run invigilator --listen HOST:PORT --key FILE".into())
-        }
+        (Some("candidate"), None) => return Err("--to is missing: ./run candidate --to HOST:PORT --key FILE".into()),
+        (Some("invigilator"), None) => return Err("--listen is missing: ./run invigilator --listen HOST:PORT --key FILE".into()),
         (Some(word), _) => return Err(format!("there is no program '{word}'; ./run --help lists the words")),
     };
     if arguments.place != Place::Both && arguments.key.is_none() {
-        return Err("a key is missing: ./run key FILE makes one, the other end needs a copy of that file, and --key FILE names it".into());
+        return Err("--key is missing: ./run key FILE makes one, the other end needs a copy of that file, and --key FILE names it".into());
     }
     Ok(Asked::Run(arguments))
 }

@@ -47,7 +47,7 @@ fn run(Arguments { place, key, width, faults, seed, sitting, keys }: Arguments) 
         (_, None, _) if !in_terminal => {
             return Err("standard input and output are no terminal; without one, --keys FILE has the keys".into())
         }
-        (_, _, None) => return Err("a key is missing".into()),
+        (_, _, None) => return Err("--key is missing".into()),
         (Place::To(to), keys, Some(shared)) => {
             let sitting = sitting::of_this_start(sitting)?;
             let start = candidate::Start { to, shared, width: columns, faults: faults.unwrap_or_default(), seed, sitting };

@@ -62,8 +62,8 @@ fn making_a_key() {
 fn without_a_key_nothing_starts() {
     let folder = Folder::new("without-a-key");
     for program in ["candidate --to 127.0.0.1:4000", "invigilator --listen 127.0.0.1:0"] {
-        refused(program, 2, "a key is missing: ./run key FILE makes one");
-        refused(&format!("{program} --keys /dev/null"), 2, "a key is missing: ./run key FILE makes one");
+        refused(program, 2, "--key is missing: ./run key FILE makes one");
+        refused(&format!("{program} --keys /dev/null"), 2, "--key is missing: ./run key FILE makes one");
         refused(&format!("{program} --keys /dev/null --key"), 2, "--key needs a value after it");
         refused(&format!("{program} --keys /dev/null --key no-such-key"), 1, "there is no no-such-key: ./run key no-such-key makes a key");
         let file = folder.0.join("no-key");
@@ -97,8 +97,8 @@ fn sittings() {
 
 #[test]
 fn addresses() {
-    refused("candidate", 2, "an address to send to is missing");
-    refused("invigilator", 2, "an address to listen on is missing");
+    refused("candidate", 2, "--to is missing");
+    refused("invigilator", 2, "--listen is missing");
     refused("candidate --to 127.0.0.1", 2, "'127.0.0.1' is no address");
     refused("candidate --to 127.0.0.1:65536", 2, "the port of '127.0.0.1:65536' is not a number from 1 to 65535");
     refused("candidate --to 127.0.0.1:0", 2, "is not a number from 1 to 65535");
@@ -125,10 +125,82 @@ fn keys_and_terminals() {
     refused(&format!("candidate --to 127.0.0.1:4000 --keys {} {key}", file.display()), 1, "there is no key <Entr>");
 }
 
+/// `./run` with these words, where no archive is: it must answer before it looks for one, or say that there is none.
+fn run(words: &str, empty: &Folder) -> Output {
+    let mut command = Command::new(concat!(env!("CARGO_MANIFEST_DIR"), "/../../run"));
+    command.args(words.split_whitespace()).env("FUTONROBIN_ARCHIVE", &empty.0).stdin(Stdio::null()).output().unwrap()
+}
+
+#[test]
+fn run_says_what_the_program_would_say_before_there_is_one() {
+    let empty = Folder::new("no-archive");
+    let text = |bytes: Vec<u8>| String::from_utf8(bytes).unwrap();
+    for words in [
+        "candiate",
+        "candidate",
+        "invigilator",
+        "key",
+        "key a b",
+        "key --force",
+        "--lost 3",
+        "--loss",
+        "--to 127.0.0.1:9",
+        "--key a",
+        "--keys a",
+        "--sitting 3",
+        "-x",
+        "--loss 3 more",
+        "candidate more",
+        "candidate --to",
+        "candidate --to 127.0.0.1:9",
+        "candidate --key a",
+        "candidate --listen 127.0.0.1:9",
+        "invigilator --listen 127.0.0.1:9",
+        "invigilator --to 127.0.0.1:9",
+        "invigilator --listen 127.0.0.1:9 --key b --sitting 3",
+        "invigilator --listen 127.0.0.1:9 --key b --width 40",
+        "invigilator --seed 1",
+    ] {
+        let (early, program) = (run(words, &empty), screens(words));
+        let told = text(early.stderr);
+        let sentence =
+            told.strip_prefix("run: ").and_then(|told| told.split_once("; ./run --help")).unwrap_or_else(|| panic!("{words}: {told}")).0;
+        assert_eq!((early.status.code(), program.status.code()), (Some(2), Some(2)), "{words}: {told}");
+        assert!(text(program.stderr).starts_with(&format!("futonrobin: {sentence}")), "{words}: {told}");
+    }
+    for words in [
+        "--help",
+        "-h",
+        "help",
+        "--version",
+        "candidate --help",
+        "invigilator -h",
+        "key -h",
+        "--loss 3 --help",
+        "candidate --to 127.0.0.1:9 --version",
+    ] {
+        let (early, program) = (run(words, &empty), screens(words));
+        assert!(early.status.success() && early.stderr.is_empty() && !early.stdout.is_empty(), "{words}");
+        assert_eq!(text(early.stdout), text(program.stdout), "{words}");
+    }
+    let understood = ["", "--width 40 --loss 1 --repeat 2 --reorder 3 --seed 4", "key a"];
+    let with_all = [
+        "candidate --to 127.0.0.1:9 --key b --keys c --sitting 5 --width 80 --seed 1",
+        "invigilator --listen 127.0.0.1:9 --key b --keys c",
+    ];
+    for words in understood.into_iter().chain(with_all) {
+        let early = run(words, &empty);
+        assert_eq!(early.status.code(), Some(1), "{words}");
+        assert!(text(early.stderr).starts_with("run: there is no "), "{words}");
+    }
+}
+
 #[test]
 fn help_and_the_recorded_keys() {
     let help = screens("--help");
-    assert!(help.status.success() && String::from_utf8(help.stdout).unwrap().contains("./run candidate --to HOST:PORT --key FILE"));
+    let told = String::from_utf8(help.stdout).unwrap();
+    assert!(help.status.success() && told.contains("./run candidate --to HOST:PORT --key FILE"));
+    assert!(told.lines().all(|line| line.chars().count() <= 80), "it fits the usual terminal");
     for words in ["", "--width 40", "--loss 60 --repeat 60 --reorder 60", "--loss 100"] {
         let played = screens(words);
         let told = String::from_utf8(played.stdout).unwrap();

@@ -186,7 +186,11 @@ fn a_forged_first_report_leaves_the_invigilator_waiting() {
     for (before, datagram) in forged.iter().enumerate() {
         between.forge(datagram);
         let shown = invigilator.wait("one more piece of garbage", |shown| number(shown, UNREADABLE) == Some(before as f64 + 1.0));
-        assert!(shown.has("WAITING for a candidate") && shown.lines[1..26].iter().all(|line| line.is_empty()), "{}", shown.lines.join("\n"));
+        assert!(
+            shown.has("WAITING for a candidate") && shown.lines[1..26].iter().all(|line| line.is_empty()),
+            "{}",
+            shown.lines.join("\n")
+        );
     }
     assert!(between.asked().is_empty(), "nobody is asked");
 }

@@ -139,8 +139,7 @@ fn a_restart_is_followed() {
     // The screen before can be looked at, and the mirror goes on meanwhile.
     pane.press("PPage");
     pane.wait("the screen before", |shown| {
-        invigilator(shown)[0] == "BEFORE"
-            && ["NOT CURRENT: sitting 1", "call 6 of 6", "PageDown: back"].iter().all(|text| shown.has(text))
+        invigilator(shown)[0] == "BEFORE" && ["NOT CURRENT: sitting 1", "call 6 of 6", "PageDown: back"].iter().all(|text| shown.has(text))
     });
     pane.write(" ALL");
     pane.wait("the mirror goes on", |shown| {
@@ -231,6 +230,14 @@ fn leaving_restores_the_terminal() {
 fn a_request_to_end_restores_the_terminal() {
     let (shell, before, process) = from_a_shell("asked");
     assert!(signal("-TERM", &process));
+    shell.wait("the shell again", |shown| shown.has("before") && !shown.has("1LIST"));
+    assert_eq!(modes(&shell, "after"), before);
+}
+
+#[test]
+fn a_terminal_that_hangs_up_is_restored_if_it_is_still_there() {
+    let (shell, before, process) = from_a_shell("hung-up");
+    assert!(signal("-HUP", &process));
     shell.wait("the shell again", |shown| shown.has("before") && !shown.has("1LIST"));
     assert_eq!(modes(&shell, "after"), before);
 }

@@ -5,5 +5,7 @@ mod between;
 mod folder;
 mod halves;
 mod pane;
+mod people;
 mod scene;
+mod sizes;
 mod two_terminals;

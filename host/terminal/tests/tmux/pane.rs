@@ -48,6 +48,13 @@ impl Pane {
         Self::screens(name, cols, rows, &format!("{words} --key {}", key().display()))
     }
 
+    /// From now on all that the program writes to the terminal goes to a file, too.
+    pub fn record(&self) -> PathBuf {
+        let file = self.folder.0.join("written");
+        self.tmux(&["pipe-pane", "-O", &format!("cat > {}", file.display())]);
+        file
+    }
+
     fn tmux(&self, words: &[&str]) -> String {
         let done = self.server().args(words).output();
         let done = done.expect("tmux, in which these tests run the programs, is at hand (host/setup installs it)");
@@ -101,11 +108,16 @@ impl Pane {
         self.tmux(&["capture-pane", "-p", "-e"])
     }
 
+    /// Where the terminal's cursor is, if it is shown.
+    pub fn cursor(&self) -> Option<(usize, usize)> {
+        let told = self.tmux(&["display-message", "-p", "#{cursor_y} #{cursor_x} #{cursor_flag}"]);
+        let numbers: Vec<usize> = told.split_whitespace().map(|number| number.parse().unwrap()).collect();
+        (numbers[2] == 1).then_some((numbers[0], numbers[1]))
+    }
+
     /// Waits until the terminal's cursor is there, and shown.
     pub fn wait_for_cursor(&self, row: usize, col: usize) {
-        let wanted = format!("{row} {col} 1");
-        let cursor = || self.tmux(&["display-message", "-p", "#{cursor_y} #{cursor_x} #{cursor_flag}"]);
-        self.wait(&format!("the cursor in row {row}, column {col}"), |_| cursor().trim() == wanted);
+        self.wait(&format!("the cursor in row {row}, column {col}"), |_| self.cursor() == Some((row, col)));
     }
 
     /// Waits until that is shown.

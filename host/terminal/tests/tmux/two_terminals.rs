@@ -45,7 +45,9 @@ fn over_udp() {
     for bytes in [&b""[..], b"no report", &[0; 5000]] {
         garbage.send_to(bytes, ("127.0.0.1", port)).unwrap();
     }
-    invigilator.wait("garbage counted, and nothing shown of it", |shown| shown.has("unreadable datagrams: 3") && first_row(shown) == "40 WARD 9, BED 3");
+    invigilator.wait("garbage counted, and nothing shown of it", |shown| {
+        shown.has("unreadable datagrams: 3") && first_row(shown) == "40 WARD 9, BED 3"
+    });
 
     drop(first);
     invigilator.wait_for("SILENT for");
@@ -111,7 +113,7 @@ fn what_there_is_to_know_about_a_sitting() {
 fn too_small_for_a_screen() {
     let invigilator = Pane::over_udp("small", 79, 24, "invigilator --listen 127.0.0.1:0");
     invigilator.wait("that it is, and what is needed", |shown| {
-        shown.has("The terminal is too small: it has 79 columns and 24 rows, and 80 and 18 are needed.")
+        shown.lines.join(" ").starts_with("The terminal is too small: it has 79 columns and 24 rows, and 80 and 18 are needed.")
     });
     invigilator.resize(80, 17);
     invigilator.wait_for("it has 80 columns and 17 rows");
