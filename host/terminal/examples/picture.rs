@@ -1,14 +1,17 @@
-//! The picture of the two screens: the recorded keys over a bad line, at 40 columns, as an SVG on standard output. The mirror is a few calls
-//! behind, and says so.
+//! The picture of the screens, as an SVG on standard output: the recorded keys over a bad line, side by side at 40 columns, where the mirror is a few calls
+//! behind, and says so; and under them the candidate's half alone, at 80 columns in a terminal of the usual size, with rows that are hidden.
 use std::time::Instant;
-use terminal::canvas::{differing, Canvas, Size};
+use terminal::canvas::{differing, Canvas, Size, Spot};
 use terminal::halves::{Halves, FAULTS};
 use terminal::played::{recorded, KEY};
 use terminal::terminal::Program;
 
 /// One that leaves the mirror behind at the end.
 const SEED: u64 = 15;
-const SIZE: Size = Size { cols: 81, rows: 36 };
+const BOTH: Size = Size { cols: 81, rows: 30 };
+const USUAL: Size = Size { cols: 80, rows: 24 };
+/// Rows between the two.
+const GAP: usize = 1;
 /// A character's place, in points.
 const WIDE: usize = 9;
 const HIGH: usize = 18;
@@ -20,8 +23,14 @@ const COLOURS: [&str; 16] = [
 ];
 
 fn main() {
+    let pictures = [(0, played(40).canvas(BOTH)), (BOTH.rows + GAP, played(80).canvas(USUAL))];
+    print!("{}", svg(&pictures));
+}
+
+/// Both ends after the recorded keys.
+fn played(width: u32) -> Halves {
     let mut now = Instant::now();
-    let mut halves = Halves::new(40, FAULTS, SEED, now);
+    let mut halves = Halves::new(width, FAULTS, SEED, now);
     let first = halves.full();
     arrive(&mut halves, first);
     for key in recorded() {
@@ -31,7 +40,7 @@ fn main() {
         let passed = halves.pass(now);
         arrive(&mut halves, passed);
     }
-    print!("{}", svg(&halves.canvas(SIZE)));
+    halves
 }
 
 fn arrive(halves: &mut Halves, datagrams: Vec<Vec<u8>>) {
@@ -40,20 +49,22 @@ fn arrive(halves: &mut Halves, datagrams: Vec<Vec<u8>>) {
     }
 }
 
-fn svg(canvas: &Canvas) -> String {
-    let (width, height) = (WIDE * SIZE.cols, HIGH * SIZE.rows);
+/// Each from this row on.
+fn svg(pictures: &[(usize, Canvas)]) -> String {
+    let (width, height) = (WIDE * BOTH.cols, HIGH * (BOTH.rows + GAP + USUAL.rows));
     let mut lines = vec![
         format!(r#"<svg xmlns="http://www.w3.org/2000/svg" viewBox="0 0 {width} {height}" width="{width}" height="{height}">"#),
         r#"<style>text { font: 15px "DejaVu Sans Mono", monospace; }</style>"#.into(),
-        format!(r#"<rect width="{width}" height="{height}"/>"#),
     ];
-    for row in 0..SIZE.rows {
-        for (col, text, attr) in differing(None, canvas.row(row)) {
-            lines.extend(stretch(row, col, &text, attr));
+    for (top, canvas) in pictures {
+        let (y, width, height) = (HIGH * top, WIDE * canvas.size.cols, HIGH * canvas.size.rows);
+        lines.push(format!(r#"<rect y="{y}" width="{width}" height="{height}"/>"#));
+        for row in 0..canvas.size.rows {
+            for (col, text, look) in differing(None, canvas.row(row)) {
+                lines.extend(stretch(top + row, col, &text, look));
+            }
         }
-    }
-    if let Some((row, col)) = canvas.cursor {
-        lines.push(rect(row, col, 1, 7));
+        lines.extend(canvas.cursor.map(|(row, col)| rect(top + row, col, 1, 7)));
     }
     lines.push("</svg>\n".into());
     lines.join("\n")
@@ -65,10 +76,14 @@ fn rect(row: usize, col: usize, cols: usize, colour: u8) -> String {
 }
 
 /// A background that is not black, and the text without the spaces at its ends.
-fn stretch(row: usize, col: usize, text: &str, attr: u8) -> Vec<String> {
+fn stretch(row: usize, col: usize, text: &str, Spot { attr, underlined, .. }: Spot) -> Vec<String> {
     let mut parts = Vec::new();
     if attr >> 4 != 0 {
         parts.push(rect(row, col, text.chars().count(), attr >> 4));
+    }
+    if underlined {
+        let (x, y, width, fill) = (WIDE * col, HIGH * (row + 1) - 2, WIDE * text.chars().count(), COLOURS[(attr & 15) as usize]);
+        parts.push(format!(r#"<rect x="{x}" y="{y}" width="{width}" height="1" fill="{fill}"/>"#));
     }
     let inner = text.trim();
     if !inner.is_empty() {

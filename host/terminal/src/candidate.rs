@@ -55,6 +55,7 @@ struct Candidate {
     problem: Option<io::Error>,
     front: Front,
     window: Window,
+    words: span::Words,
 }
 
 impl Candidate {
@@ -64,8 +65,8 @@ impl Candidate {
         let now = clock.now();
         let end = line::Candidate::new(&shared, &desk.screen, now);
         let (bad_line, socket) = (BadLine::new(faults, seed), socket_to(to)?);
-        let (front, window) = (Front::new(true), Window::default());
-        let mut candidate = Self { desk, end, bad_line, socket, to, clock, now, notice: sitting.told, problem: None, front, window };
+        let (front, window, words) = (Front::new(true), Window::default(), span::Words::default());
+        let mut candidate = Self { desk, end, bad_line, socket, to, clock, now, notice: sitting.told, problem: None, front, window, words };
         candidate.full();
         Ok(candidate)
     }
@@ -152,7 +153,7 @@ impl Candidate {
             Some(question) => vec![question],
             None => self.invigilator(),
         };
-        vec![first, span::words(&self.desk.screen), submitted.into_iter().collect()]
+        vec![first, self.words.of(&self.desk.screen), submitted.into_iter().collect()]
     }
 
     /// What there is to know about the sitting: what follows, and why.

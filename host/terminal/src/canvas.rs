@@ -95,11 +95,12 @@ impl Canvas {
 
     /// Rows of a screen or a mirror. The last cell of one whose line goes on in the next row is underlined.
     pub fn rows(&mut self, top: usize, left: usize, shown: &impl Shown, rows: Range<u32>) {
+        let width = shown.width();
         for (at, row) in rows.enumerate() {
-            for col in 0..shown.width() {
+            let goes_on = shown.continues(row).expect("the row is inside of the screen");
+            for col in 0..width {
                 let Cell { ch, attr } = shown.cell(row, col).expect("the place is inside of the screen");
-                let underlined = col + 1 == shown.width() && shown.continues(row).expect("the row is inside of the screen");
-                self.put(top + at, left + col as usize, Spot { ch: glyph(ch), attr, underlined });
+                self.put(top + at, left + col as usize, Spot { ch: glyph(ch), attr, underlined: goes_on && col + 1 == width });
             }
         }
     }

@@ -44,6 +44,7 @@ pub struct Halves {
     front: Front,
     /// Of the candidate's screen, and of the mirror.
     windows: [Window; 2],
+    words: span::Words,
     /// Where there is no room for both halves, the mirror is in sight.
     mirror_in_sight: bool,
     clock: Clock,
@@ -64,8 +65,8 @@ impl Halves {
         let (candidate, invigilator) = (Candidate::new(&shared, &desk.screen, now), Invigilator::new(&shared));
         let (there, back) = (BadLine::new(faults, seed), BadLine::new(faults, !seed));
         let (view, alarm, front, windows) = (View::default(), Alarm::default(), Front::new(true), Default::default());
-        let (clock, mirror_in_sight) = (Clock::new(), false);
-        Self { width, shared, desk, candidate, invigilator, there, back, view, alarm, front, windows, mirror_in_sight, clock, now }
+        let (clock, words, mirror_in_sight) = (Clock::new(), span::Words::default(), false);
+        Self { width, shared, desk, candidate, invigilator, there, back, view, alarm, front, windows, words, mirror_in_sight, clock, now }
     }
 
     pub fn follower(&self) -> &Follower {
@@ -193,7 +194,7 @@ impl Halves {
         let lists = canvas.size.rows > SCREEN + AROUND + LINE;
         let submitted = if lists { None } else { submitted::in_a_row(submitted, area.cols) };
         let told = told::by(&self.candidate, screen.pair(), self.now);
-        let status = vec![told, span::words(screen), submitted.into_iter().collect()];
+        let status = vec![told, self.words.of(screen), submitted.into_iter().collect()];
         let panel = Panel { title: candidate::title(screen), hint, shown: Some(screen), status, table };
         panel.paint(canvas, area, &mut self.windows[0])
     }

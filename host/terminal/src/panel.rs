@@ -105,3 +105,89 @@ fn room_of(text: &str) -> usize {
         length => length + 2,
     }
 }
+
+#[cfg(test)]
+mod tests {
+    use super::*;
+    use crate::canvas::{Size, STRONG};
+    use crate::front::NEEDED;
+    use crate::glyphs::{glyph, string};
+    use futonrobin::Screen;
+
+    /// A screen whose rows all differ, up to their last column.
+    fn filled(width: u32, keys: bool) -> Screen {
+        let mut screen = Screen::new(width, 1);
+        screen.set_keys_on(false).unwrap();
+        let cells = (0..25 * width - 1).map(|n| b'0' + (n % 71 + n / width) as u8 % 75);
+        screen.print_bytes(&cells.collect::<Vec<_>>()).unwrap();
+        screen.set_keys_on(keys).unwrap();
+        screen
+    }
+
+    /// The characters from a place on.
+    fn text(canvas: &Canvas, row: usize, left: usize, length: usize) -> String {
+        canvas.row(row)[left..left + length].iter().map(|spot| spot.ch).collect()
+    }
+
+    /// All rows of a canvas that is so high, compared with the screen's cells.
+    fn check(screen: &Screen, left: usize, rows: usize, window: &mut Window) {
+        let (table, width, editable) = (KeyTable::standard(), screen.width() as usize, screen.editable_rows() as usize);
+        let mut canvas = Canvas::new(Size { cols: 170, rows });
+        let part = |text: &str| (text.to_string(), STRONG);
+        let panel = Panel {
+            title: vec![part("TITLE")],
+            hint: "HINT",
+            shown: Some(screen),
+            status: vec![vec![part("FIRST")], vec![part("SECOND")]],
+            table: &table,
+        };
+        let painted = panel.paint(&mut canvas, Area { left, cols: width, rows }, window);
+        let strip = 25 - editable;
+        let height = (rows - AROUND - strip).min(editable);
+        let mark = |row: usize, arrow| -> usize {
+            let mark = text(&canvas, row, left, width);
+            mark.split_once(arrow).map_or(0, |(_, rest)| rest.split_whitespace().next().unwrap().parse().unwrap())
+        };
+        let (above, below) = (mark(0, '▲'), mark(1 + height + strip, '▼'));
+        assert_eq!(above + height + below, editable);
+        for at in 0..height {
+            let cells: String = (0..screen.width()).map(|col| glyph(screen.cell((above + at) as u32, col).unwrap().ch)).collect();
+            assert_eq!(text(&canvas, 1 + at, left, width), cells);
+        }
+        if strip > 0 {
+            assert_eq!(text(&canvas, 1 + height, left, width), string(&table.strip(0, screen.width()).unwrap()));
+        }
+        let (row, col) = screen.cursor();
+        assert_eq!(painted.cursor, Some((1 + row as usize - above, left + col as usize)), "the cursor's row is in sight");
+        assert_eq!(painted.below, 1 + height + strip + STATUS);
+        assert!(text(&canvas, 0, left, width).starts_with("TITLE") && text(&canvas, 0, left, width).ends_with("HINT"));
+        let status = [0, 1, 2].map(|at| text(&canvas, 1 + height + strip + at, left, width));
+        assert!(status[0].starts_with("FIRST ") && status[1].starts_with("SECOND ") && status[2].trim().is_empty());
+    }
+
+    #[test]
+    fn at_every_height_and_cursor_the_rows_in_sight_are_the_screens() {
+        for (width, keys) in [(40, true), (40, false), (80, true), (80, false)] {
+            let (mut screen, mut window) = (filled(width, keys), Window::default());
+            let last = screen.editable_rows() - 1;
+            for rows in (NEEDED.rows - 1..=31).chain([NEEDED.rows - 1]) {
+                for row in (0..=last).chain((0..last).rev()).chain([last, 0, last / 2]) {
+                    screen.set_cursor(row, row % width).unwrap();
+                    check(&screen, if rows % 2 == 0 { 0 } else { 81 }, rows, &mut window);
+                }
+            }
+        }
+    }
+
+    #[test]
+    fn a_screen_that_is_narrower_than_its_place_has_an_edge() {
+        let (table, screen) = (KeyTable::standard(), filled(40, true));
+        for (cols, edge) in [(40, ' '), (41, '│'), (80, '│')] {
+            let mut canvas = Canvas::new(Size { cols: 81, rows: 24 });
+            let panel = Panel { title: Vec::new(), hint: "", shown: Some(&screen), status: Vec::new(), table: &table };
+            panel.paint(&mut canvas, Area { left: 0, cols, rows: 24 }, &mut Window::default());
+            assert!((1..21).all(|row| canvas.row(row)[40].ch == edge), "{cols} columns");
+            assert!([0, 21, 22, 23].iter().all(|&row| canvas.row(row)[40].ch != '│'));
+        }
+    }
+}

@@ -1,6 +1,7 @@
 //! The logical line under the cursor: the rows that it has, and how many characters it still takes.
 use crate::canvas::{Part, PLAIN, STRONG, YELLOW};
 use futonrobin::{Screen, Shown};
+use std::cell::RefCell;
 use std::ops::RangeInclusive;
 
 /// Document 01's span: up while the row above is flagged, and down while this one is and another editable row follows.
@@ -25,8 +26,24 @@ pub fn room(shown: &impl Shown) -> usize {
     std::iter::from_fn(|| grows().then_some(())).count()
 }
 
+/// The words of the record that was asked about last: to find the room takes some hundred calls, and a screen is painted often.
+#[derive(Default)]
+pub struct Words {
+    last: RefCell<(Vec<u8>, Vec<Part>)>,
+}
+
+impl Words {
+    pub fn of(&self, shown: &impl Shown) -> Vec<Part> {
+        let mut last = self.last.borrow_mut();
+        if last.0 != shown.record() {
+            *last = (shown.record().to_vec(), words(shown));
+        }
+        last.1.clone()
+    }
+}
+
 /// How one types there, and what is known of the line, in words.
-pub fn words(shown: &impl Shown) -> Vec<Part> {
+fn words(shown: &impl Shown) -> Vec<Part> {
     let (rows, room) = (rows(shown), room(shown));
     let insert = shown.insert_mode().then(|| ("INSERT".into(), STRONG));
     let room = if room == 0 { ("line full".into(), YELLOW) } else { (format!("room for {room}"), PLAIN) };
@@ -42,7 +59,7 @@ mod tests {
     use oorandom::Rand32;
 
     fn said(shown: &impl Shown) -> String {
-        words(shown).into_iter().map(|(text, _)| text).collect::<Vec<_>>().join(", ")
+        Words::default().of(shown).into_iter().map(|(text, _)| text).collect::<Vec<_>>().join(", ")
     }
 
     #[test]
@@ -90,6 +107,16 @@ mod tests {
             }
         }
         assert!(full > 20, "full lines were among them: {full}");
+    }
+
+    #[test]
+    fn words_are_those_of_the_screen_that_is_asked_about() {
+        let (words, mut screen) = (Words::default(), Screen::new(40, 1));
+        for n in 0..9 {
+            assert_eq!(words.of(&screen), [(format!("room for {}", 255 - n), PLAIN)]);
+            assert_eq!(words.of(&screen), [(format!("room for {}", 255 - n), PLAIN)]);
+            screen.type_char(b'A').unwrap();
+        }
     }
 
     #[test]

@@ -14,11 +14,11 @@ fn rows_of(number: usize, line: &str, cols: usize) -> Vec<String> {
 pub fn in_a_row(submitted: &[String], cols: usize) -> Option<Part> {
     let (number, line) = (submitted.len(), submitted.last()?);
     let rows = rows_of(number, line, cols);
-    Some(if rows.len() == 1 { (rows.concat(), PLAIN) } else { (named(number, line), PLAIN) })
+    Some((if rows.len() == 1 { rows.concat() } else { named(number) }, PLAIN))
 }
 
-fn named(number: usize, line: &str) -> String {
-    format!("submitted {number}: {} characters, Ctrl-P shows them", line.chars().count())
+fn named(number: usize) -> String {
+    format!("submitted {number}: Ctrl-P shows it")
 }
 
 /// The last ones that have room in the rows from this one on.
@@ -32,8 +32,8 @@ pub fn list(canvas: &mut Canvas, top: usize, submitted: &[String]) {
         }
         rows = [above, rows].concat();
     }
-    if let (true, Some(line)) = (rows.is_empty() && free > 0, submitted.last()) {
-        rows.push(named(submitted.len(), line));
+    if rows.is_empty() && free > 0 && !submitted.is_empty() {
+        rows.push(named(submitted.len()));
     }
     rows.iter().enumerate().for_each(|(at, row)| canvas.text(top + at, 0, row, PLAIN));
 }
@@ -95,9 +95,9 @@ mod tests {
     #[test]
     fn what_has_no_room_is_named() {
         let listed = |rows| shown(rows, |canvas| list(canvas, 0, &lines()[..2]));
-        assert_eq!(listed(1), ["submitted 2: 34 characters, C…"]);
+        assert_eq!(listed(1), ["submitted 2: Ctrl-P shows it"]);
         assert_eq!(in_a_row(&lines()[..2], 80).unwrap().0, "submitted 2: 20 WARD 8: BED 1 FREE, BED 2  FREE");
-        assert_eq!(in_a_row(&lines()[..2], 46).unwrap().0, "submitted 2: 34 characters, Ctrl-P shows them");
+        assert_eq!(in_a_row(&lines()[..2], 46).unwrap().0, "submitted 2: Ctrl-P shows it");
         assert_eq!(in_a_row(&[], 80), None);
     }
 

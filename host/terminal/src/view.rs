@@ -13,6 +13,7 @@ pub const HINT_BACK: &str = "PageDown: back";
 #[derive(Default)]
 pub struct View {
     chosen: Option<u32>,
+    words: span::Words,
 }
 
 impl View {
@@ -51,7 +52,7 @@ impl View {
     /// calls, the mirror's state and age, which go on, and the rest.
     pub fn status(&self, follower: &Follower, now: Instant) -> [Vec<Part>; 3] {
         let (mut state, calls, sittings) = (state(follower, now), calls(follower, now), sittings(follower, now));
-        let modes = self.screen(follower).map_or(Vec::new(), span::words);
+        let modes = self.screen(follower).map_or(Vec::new(), |shown| self.words.of(shown));
         match self.earlier(follower) {
             None => [state, [calls, modes].concat(), sittings],
             Some(earlier) => {

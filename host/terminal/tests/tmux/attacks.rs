@@ -273,7 +273,7 @@ fn wait_for_both(candidate: &Pane, invigilator: &Pane, what: &str, typed: &dyn F
 }
 
 /// A sign that the candidate is there is shorter, a report longer.
-const SIGN: usize = 90;
+pub const SIGN: usize = 90;
 
 #[test]
 fn a_sign_that_later_calls_were_made_makes_the_screen_no_younger() {

@@ -1,9 +1,10 @@
 //! What the people at the programs are told: words and colours, the bell, the page of keys, the submitted lines, and questions before something is lost.
+use crate::attacks::SIGN;
 use crate::between::Way;
 use crate::pane::{key, Pane, Shown};
-use crate::scene::{Look, Scene, NEVER};
+use crate::scene::{number, Look, Scene, FAST, NEVER};
 use crate::sizes::{two, GOOD_LINE, SIZES, USUAL};
-use crate::two_terminals::{first_row, port_of};
+use crate::two_terminals::first_row;
 use std::fs;
 
 /// By tmux's numbers of them.
@@ -22,69 +23,81 @@ fn last_colour(text: &str) -> Option<&str> {
     text[at..].find('m').map(|end| &text[at..=at + end])
 }
 
+/// A scene in a terminal of each size, in which five characters are typed and shown, with a variable of the environment.
+fn scenes(name: &str, variable: &str) -> Vec<Scene> {
+    let mut scenes: Vec<_> = SIZES.iter().map(|size| Scene::of_size(&format!("{name}-{}", size.0), key(), *size, variable)).collect();
+    scenes.iter_mut().for_each(|scene| scene.begins(5));
+    scenes
+}
+
 #[test]
 fn each_state_has_its_colour_and_silence_rings_once() {
-    let mut scene = Scene::begun("colours", 5);
-    let written = scene.invigilator.record();
-    let bells = || fs::read(&written).map_or(0, |bytes| bytes.iter().filter(|&&byte| byte == 7).count());
-    wait_for_colour(&scene.invigilator, GREEN, "LEVEL, ");
-    wait_for_colour(&scene.candidate, GREEN, "the invigilator shows call 5 of 5");
-    scene.between.both(Way::Cut);
-    wait_for_colour(&scene.invigilator, YELLOW, "OLD");
-    assert_eq!(bells(), 0);
+    let mut scenes = scenes("colours", "X=");
+    let written: Vec<_> = scenes.iter().map(|scene| scene.invigilator.record()).collect();
+    let bells = |at: usize| fs::read(&written[at]).map_or(0, |bytes| bytes.iter().filter(|&&byte| byte == 7).count());
+    for scene in &scenes {
+        wait_for_colour(&scene.invigilator, GREEN, "LEVEL, ");
+        wait_for_colour(&scene.candidate, GREEN, "the invigilator shows call 5 of 5");
+    }
+    scenes.iter().for_each(|scene| scene.between.both(Way::Cut));
+    scenes.iter().for_each(|scene| wait_for_colour(&scene.invigilator, YELLOW, "OLD"));
     for silences in 1..3 {
-        wait_for_colour(&scene.invigilator, RED, "SILENT for ");
-        wait_for_colour(&scene.candidate, RED, "NO INVIGILATOR HEARD for ");
-        scene.invigilator.wait_for("SILENT for 7 s");
-        assert_eq!(bells(), silences, "once for each time that it turns so");
-        scene.between.both(Way::Pass);
-        scene.watch("LEVEL again", NEVER, Look::is_level_with_all);
-        assert_eq!(bells(), silences);
-        scene.between.both(Way::Cut);
+        for (at, scene) in scenes.iter().enumerate() {
+            wait_for_colour(&scene.invigilator, RED, "SILENT for ");
+            wait_for_colour(&scene.candidate, RED, "NO INVIGILATOR HEARD for ");
+            scene
+                .invigilator
+                .wait("a silence of seven seconds", |shown| number(shown, "SILENT for ").is_some_and(|seconds| seconds >= 7.0));
+            assert_eq!(bells(at), silences, "once for each time that it turns so");
+            scene.between.both(Way::Pass);
+        }
+        for (at, scene) in scenes.iter_mut().enumerate() {
+            scene.watch("LEVEL again", NEVER, Look::is_level_with_all);
+            assert_eq!(bells(at), silences);
+            scene.between.both(Way::Cut);
+        }
     }
 }
 
 #[test]
 fn two_states_at_once_are_both_told() {
-    let pane = Pane::screens("two-states", USUAL.0, USUAL.1, GOOD_LINE);
-    pane.wait_for("1LIST");
-    pane.write("BEFORE");
-    pane.press("C-t");
-    pane.wait("LEVEL", |shown| first_row(shown) == "BEFORE" && shown.has("LEVEL, "));
-    // The next sitting is heard of by a step alone, and then nothing more.
-    pane.press("C-x C-n C-x A C-x");
-    let shown = pane.wait_for("SILENT for ");
-    let state = shown.lines.iter().find(|line| line.contains("SILENT for ")).unwrap();
-    // Where the keys take a second, a full report passes too.
-    assert!(state.contains("BEGUN: sitting 2") || shown.lines[0].contains("sitting 2"), "{}", shown.lines.join("\n"));
-    if state.contains("BEGUN") {
-        wait_for_colour(&pane, RED, "SILENT for ");
-        wait_for_colour(&pane, YELLOW, "BEGUN: sitting 2");
+    let mut scenes = scenes("two-states", "X=");
+    for scene in &mut scenes {
+        scene.between.forth(Way::UpTo(SIGN));
+        scene.watch("later calls", FAST, |look| look.says("BEHIND by "));
+        wait_for_colour(&scene.invigilator, YELLOW, "BEHIND by ");
+        scene.between.both(Way::Cut);
+    }
+    for scene in &scenes {
+        scene
+            .invigilator
+            .wait("both", |shown| shown.lines.iter().any(|line| line.contains("SILENT for ") && line.contains("  BEHIND by ")));
+        wait_for_colour(&scene.invigilator, RED, "SILENT for ");
+        wait_for_colour(&scene.invigilator, YELLOW, "BEHIND by ");
     }
 }
 
 #[test]
 fn without_colours_the_words_suffice() {
-    let start = |name: &str, words: &str| {
-        let program = format!("env NO_COLOR=1 {} {words} --key {}", env!("CARGO_BIN_EXE_screens"), key().display());
-        Pane::start(name, USUAL.0, USUAL.1, &program)
-    };
-    let invigilator = start("plain-invigilator", "invigilator --listen 127.0.0.1:0");
-    let candidate = start("plain-candidate", &format!("candidate --to 127.0.0.1:{}", port_of(&invigilator)));
-    candidate.wait_for("1LIST");
-    // A colour of the screen's own is left out too.
-    candidate.press("C-a C-a C-a");
-    candidate.write(&"A".repeat(90));
-    candidate.wait_for("the invigilator shows call 93 of 93");
-    invigilator.wait("all of it", |shown| shown.has("LEVEL, ") && shown.has("line in rows 1 to 2"));
-    for pane in [&candidate, &invigilator] {
-        let shown = pane.coloured();
-        assert!(!is_coloured(&shown), "{shown:?}");
-        assert!(shown.contains("\u{1b}[7m1LIST"), "the key strip is reversed: {shown:?}");
+    let scenes: Vec<_> = scenes("plain", "NO_COLOR=1").into_iter().chain(scenes("mono", "TERM=vt220")).collect();
+    for scene in &scenes {
+        // A colour of the screen's own is left out too.
+        scene.candidate.press("C-a C-a C-a");
+        scene.candidate.wait_for("the invigilator shows call 8 of 8");
+        scene.invigilator.wait_for("shows call 8 of 8");
+        for pane in [&scene.candidate, &scene.invigilator] {
+            let shown = pane.coloured();
+            assert!(!is_coloured(&shown), "{shown:?}");
+            assert!(shown.contains("\u{1b}[7m1LIST"), "the key strip is reversed: {shown:?}");
+        }
+        scene.between.both(Way::Cut);
     }
-    drop(candidate);
-    invigilator.wait_for("SILENT for ");
-    assert!(!is_coloured(&invigilator.coloured()));
+    for scene in &scenes {
+        scene.invigilator.wait_for("OLD  the screen of ");
+        scene.invigilator.wait_for("SILENT for ");
+        scene.candidate.wait_for("NO INVIGILATOR HEARD for ");
+        assert!(!is_coloured(&scene.invigilator.coloured()));
+    }
 }
 
 /// Whether any escape of the text sets a colour, and not only the terminal's own again.
@@ -189,8 +202,7 @@ fn submitted_lines_are_wrapped_and_not_cut() {
         candidate.press("C-p");
         let shown = candidate.wait("the screen again", |shown| !shown.has("2 LINES SUBMITTED"));
         match rows {
-            24 => assert!(shown.has("submitted 2: 255 characters, Ctrl-P shows them"), "{}", shown.lines.join("\n")),
-            30 => assert!(shown.has("submitted 2: 255 characters, Ctrl-P shows them"), "{}", shown.lines.join("\n")),
+            24 | 30 => assert!(shown.has("submitted 2: Ctrl-P shows it"), "{}", shown.lines.join("\n")),
             _ => assert_eq!(whole(&shown).as_deref(), Some(line.as_str()), "{}", shown.lines.join("\n")),
         }
     }

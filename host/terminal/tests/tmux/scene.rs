@@ -64,9 +64,14 @@ impl Scene {
     }
 
     pub fn with_key(name: &str, key: &Path) -> Self {
-        let (invigilator, port) = invigilator(&format!("{name}-invigilator"), key);
+        Self::of_size(name, key, (COLS, ROWS), "X=")
+    }
+
+    /// Both programs in terminals of this size, with a variable of the environment.
+    pub fn of_size(name: &str, key: &Path, size: (usize, usize), variable: &str) -> Self {
+        let (invigilator, port) = start_invigilator(&format!("{name}-invigilator"), key, size, variable);
         let between = Between::new(port);
-        let candidate = candidate(&format!("{name}-candidate"), &between, key);
+        let candidate = start_candidate(&format!("{name}-candidate"), &between, key, size, variable);
         let now = Instant::now();
         Self { between, candidate, invigilator, gone: Vec::new(), last: now, looked: Cell::new(now) }
     }
@@ -74,9 +79,14 @@ impl Scene {
     /// A scene in which so many characters are typed and shown, and LEVEL.
     pub fn begun(name: &str, characters: usize) -> Self {
         let mut scene = Self::new(name);
-        scene.types(characters);
-        scene.watch("what was typed, and LEVEL", NEVER, Look::is_level_with_all);
+        scene.begins(characters);
         scene
+    }
+
+    /// So many characters are typed, and shown.
+    pub fn begins(&mut self, characters: usize) {
+        self.types(characters);
+        self.watch("what was typed, and LEVEL", NEVER, Look::is_level_with_all);
     }
 
     /// So many characters more.
@@ -139,14 +149,26 @@ impl Scene {
 
 /// An invigilator with this key on any free port, and that port.
 pub fn invigilator(name: &str, key: &Path) -> (Pane, u16) {
-    let pane = Pane::screens(name, COLS, ROWS, &format!("invigilator --listen 127.0.0.1:0 --key {}", key.display()));
+    start_invigilator(name, key, (COLS, ROWS), "X=")
+}
+
+fn start_invigilator(name: &str, key: &Path, size: (usize, usize), variable: &str) -> (Pane, u16) {
+    let pane = start(name, key, size, variable, "invigilator --listen 127.0.0.1:0");
     let port = port_of(&pane);
     (pane, port)
 }
 
+fn start(name: &str, key: &Path, (cols, rows): (usize, usize), variable: &str, words: &str) -> Pane {
+    Pane::start(name, cols, rows, &format!("env {variable} {} {words} --key {}", env!("CARGO_BIN_EXE_screens"), key.display()))
+}
+
 /// A candidate with this key that sends to what is between.
 pub fn candidate(name: &str, between: &Between, key: &Path) -> Pane {
-    let pane = Pane::screens(name, COLS, ROWS, &format!("candidate --to 127.0.0.1:{} --key {}", between.port(), key.display()));
+    start_candidate(name, between, key, (COLS, ROWS), "X=")
+}
+
+fn start_candidate(name: &str, between: &Between, key: &Path, size: (usize, usize), variable: &str) -> Pane {
+    let pane = start(name, key, size, variable, &format!("candidate --to 127.0.0.1:{}", between.port()));
     pane.wait_for("1LIST");
     pane
 }

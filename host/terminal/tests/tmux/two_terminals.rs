@@ -27,8 +27,9 @@ fn candidate(name: &str, port: u16, more: &str) -> Pane {
     pane
 }
 
+/// Up to the screen's edge.
 pub fn first_row(shown: &Shown) -> &str {
-    shown.lines[1].trim_end()
+    shown.lines[1].split('│').next().unwrap_or_default().trim_end()
 }
 
 #[test]
