@@ -27,6 +27,8 @@ pub struct Candidate {
     sent: Sent,
     /// The question that echoes the latest datagram of this start, and when that was sent.
     told: Option<(Question, Instant)>,
+    /// When the last question came that was taken.
+    came: Option<Instant>,
     /// The last question, if nothing was said since.
     unanswered: Option<Question>,
     /// When the last report was sent, the last full one, and how many steps since.
@@ -47,6 +49,7 @@ impl Candidate {
             echoes: Echoes::default(),
             sent: Sent::default(),
             told: None,
+            came: None,
             unanswered: None,
             last: now,
             last_full: None,
@@ -57,7 +60,7 @@ impl Candidate {
 
     /// Something came. What does not open is garbage. A question that echoes no datagram of this start is of another time; one that is no later than
     /// one before of its start, or echoes an earlier datagram than those of four other starts, says nothing.
-    pub fn receive(&mut self, datagram: &[u8]) {
+    pub fn receive(&mut self, datagram: &[u8], now: Instant) {
         let opened = self.opener.open(datagram).and_then(|opened| Some((Question::read(&opened.body)?, opened)));
         let Some((question, opened)) = opened else {
             self.garbage += 1;
@@ -68,7 +71,7 @@ impl Candidate {
         if !own || !self.echoes.hear(asked, question.echo.counter) {
             return;
         }
-        self.unanswered = Some(question);
+        (self.unanswered, self.came) = (Some(question), Some(now));
         let sent = self.sent.when(question.echo.counter);
         if let Some(when) = sent.filter(|when| self.told.is_none_or(|(_, before)| before <= *when)) {
             self.told = Some((question, when));
@@ -78,6 +81,11 @@ impl Candidate {
     /// What an invigilator has asked that had heard of this screen: it was so at that moment or later.
     pub fn told(&self) -> Option<(Question, Instant)> {
         self.told
+    }
+
+    /// How long no invigilator was heard; `None` before the first.
+    pub fn quiet(&self, now: Instant) -> Option<Duration> {
+        self.came.map(|came| now.saturating_duration_since(came))
     }
 
     /// Whether an invigilator has said that it shows this. It cannot have said so before the screen had that pair.
@@ -155,6 +163,7 @@ mod tests {
         asking: Sealer,
         opener: Opener,
         begun: Instant,
+        now: Instant,
     }
 
     /// What a datagram says, without the bytes of a piece.
@@ -171,7 +180,7 @@ mod tests {
             let screen = Screen::new(40, 7);
             let candidate = Candidate::new(&shared, &screen, begun);
             let (asking, opener) = (Sealer::new(&shared, End::Invigilator), Opener::new(&shared, End::Candidate));
-            Self { screen, candidate, asking, opener, begun, shared }
+            Self { screen, candidate, asking, opener, begun, now: begun, shared }
         }
 
         fn at(&self, millis: u64) -> Instant {
@@ -179,15 +188,15 @@ mod tests {
         }
 
         fn press(&mut self, millis: u64) -> Vec<Heard> {
-            let now = self.at(millis);
+            self.now = self.at(millis);
             self.screen.type_char(b'A').unwrap();
-            let sent = self.candidate.send(&self.screen, &self.screen.report_step(), now);
+            let sent = self.candidate.send(&self.screen, &self.screen.report_step(), self.now);
             self.hear(sent)
         }
 
         fn due(&mut self, millis: u64) -> Vec<Heard> {
-            let now = self.at(millis);
-            let sent = self.candidate.due(&self.screen, now);
+            self.now = self.at(millis);
+            let sent = self.candidate.due(&self.screen, self.now);
             self.hear(sent)
         }
 
@@ -204,7 +213,7 @@ mod tests {
 
         fn question(&mut self, shown: Option<Pair>, heard: Pair, echo: Mark) -> Mark {
             let asked = Mark { start: self.asking.start(), counter: self.asking.next() };
-            self.candidate.receive(&self.asking.seal(&Question { shown, heard, echo }.write()));
+            self.candidate.receive(&self.asking.seal(&Question { shown, heard, echo }.write()), self.now);
             asked
         }
 
@@ -288,16 +297,16 @@ mod tests {
         scene.due(0);
         let question = Question { shown: None, heard: Pair { sitting: 7, serial: 0 }, echo: scene.last() };
         let [first, second] = [(); 2].map(|()| scene.asking.seal(&question.write()));
-        scene.candidate.receive(&second);
+        scene.candidate.receive(&second, scene.at(400));
         let echo = Mark { start: scene.asking.start(), counter: 1 };
         assert_eq!(scene.due(500), report(0, &[echo]));
-        [&first, &second].into_iter().for_each(|late| scene.candidate.receive(late));
+        [&first, &second].into_iter().for_each(|late| scene.candidate.receive(late, scene.begun));
         assert_eq!((scene.due(700), scene.candidate.told()), (vec![], Some((question, scene.begun))));
         let own = scene.candidate.full(&scene.screen, scene.begun).remove(0);
         let mut forged = Sealer::new(&SharedKey::draw(), End::Invigilator);
         let mut no_question = Sealer::new(&scene.shared, End::Invigilator);
         for garbage in [&b""[..], b"FR", &own, &forged.seal(&question.write()), &no_question.seal(b"?")] {
-            scene.candidate.receive(garbage);
+            scene.candidate.receive(garbage, scene.begun);
         }
         assert_eq!((scene.due(800), scene.candidate.garbage), (vec![], 5));
     }
@@ -326,6 +335,26 @@ mod tests {
         scene.question(Some(pair(7, 0)), pair(7, 0), first);
         assert_eq!(scene.candidate.told().map(|(_, when)| when), Some(scene.at(400)), "what is known already is newer");
         assert!(scene.candidate.is_shown(pair(7, 1)));
+    }
+
+    #[test]
+    fn a_slow_line_is_not_silent() {
+        let mut scene = Scene::new();
+        assert_eq!(scene.candidate.quiet(scene.at(0)), None);
+        scene.due(0);
+        let first = scene.last();
+        scene.due(6_000);
+        let asked = scene.question(None, Pair { sitting: 7, serial: 0 }, first);
+        assert_eq!(scene.candidate.told().map(|(_, when)| when), Some(scene.begun), "what it tells was so six seconds ago or later");
+        assert_eq!(scene.candidate.quiet(scene.at(7_500)), Some(Duration::from_millis(1_500)), "but it was heard just now");
+        // Neither one that is sent again, nor garbage, nor one of another time is heard.
+        let mut again = Sealer::new(&scene.shared, End::Invigilator);
+        let question = Question { shown: None, heard: Pair { sitting: 7, serial: 0 }, echo: Mark { start: Start::draw(), counter: 0 } };
+        for datagram in [again.seal(&question.write()), again.seal(b"?"), b"FR".to_vec()] {
+            scene.candidate.receive(&datagram, scene.at(7_500));
+        }
+        assert_eq!(asked.counter, 0);
+        assert_eq!(scene.candidate.quiet(scene.at(7_500)), Some(Duration::from_millis(1_500)));
     }
 
     #[test]

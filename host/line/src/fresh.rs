@@ -158,7 +158,7 @@ impl State {
             State::Waiting => Some((Word::Waiting, "WAITING for a candidate".into())),
             State::Shows { age: Some(age), .. } if self.is_level() => return vec![(Word::Level, format!("LEVEL, {}", seconds(*age)))],
             State::Begun { sitting, .. } => Some((Word::Begun, format!("BEGUN: sitting {sitting}"))),
-            State::Shows { behind: 0, .. } => silent.is_none().then(|| (Word::Old, "OLD".into())),
+            State::Shows { behind: 0, .. } => Some((Word::Old, "OLD".into())),
             State::Shows { behind, .. } => Some((Word::Behind, format!("BEHIND by {behind}"))),
         };
         [silent, place].into_iter().flatten().collect()
@@ -227,8 +227,8 @@ mod tests {
             (1_900, "LEVEL, 1.9 s"),
             (1_901, "OLD; the screen of 2.0 s ago"),
             (4_999, "OLD; the screen of 5.0 s ago"),
-            (5_000, "SILENT for 5 s; the screen of 5.0 s ago"),
-            (60_000, "SILENT for 60 s; the screen of 60 s ago"),
+            (5_000, "SILENT for 5 s, OLD; the screen of 5.0 s ago"),
+            (60_000, "SILENT for 60 s, OLD; the screen of 60 s ago"),
         ] {
             assert_eq!(said(&fresh, begun + millis(after)), text);
         }

@@ -213,7 +213,7 @@ impl Line {
         let questions = self.invigilator.ask(self.now);
         assert_eq!(questions.first().map(|(to, _)| *to), Some(address(1)), "the question is due");
         self.asked.remember(&questions[0].1);
-        self.candidate.receive(&questions[0].1);
+        self.candidate.receive(&questions[0].1, self.now);
         let answers = self.candidate.due(&self.screen, self.now);
         assert!(!answers.is_empty(), "the answer is due");
         self.say(answers);
@@ -264,7 +264,7 @@ impl Line {
         };
         self.asked.renew(&self.shared, random);
         let before = self.view();
-        self.candidate.receive(&datagram);
+        self.candidate.receive(&datagram, self.now);
         self.garbage.0 += u64::from(kind != Replayed);
         assert_eq!((self.view(), self.candidate.garbage), (before, self.garbage.0), "{kind:?}");
         self.count(format!("to candidates, {kind:?}"));

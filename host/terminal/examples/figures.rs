@@ -129,7 +129,7 @@ fn type_to(to: SocketAddr, shared: &SharedKey, begun: Instant) {
     let (mut end, mut last) = (Candidate::new(shared, &desk.screen, begun), begun);
     while begun.elapsed() < WATCHED {
         let now = Instant::now();
-        drain(&socket, |bytes, _| end.receive(bytes)).unwrap();
+        drain(&socket, |bytes, _| end.receive(bytes, now)).unwrap();
         let mut sent = end.due(&desk.screen, now);
         if now - last >= KEY {
             last = now;

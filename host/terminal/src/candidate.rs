@@ -1,9 +1,9 @@
 //! The candidate's program, over UDP.
 use crate::bad_line::{BadLine, Faults, Passed};
-use crate::canvas::{wrapped, Canvas, Part, Size, PLAIN, RED, STRONG};
+use crate::canvas::{wrapped, Canvas, Part, Size, PLAIN, RED, STRONG, YELLOW};
 use crate::clock::Clock;
 use crate::desk::Desk;
-use crate::front::{Front, Page};
+use crate::front::{Front, Page, HINT};
 use crate::help;
 use crate::keys::Key;
 use crate::panel::{Area, Panel, AROUND, SCREEN};
@@ -22,7 +22,6 @@ use std::thread::sleep;
 use std::time::{Duration, Instant};
 
 const TICK: Duration = Duration::from_millis(20);
-pub const HINT: &str = "Ctrl-G: help";
 
 /// With keys from a file, so many datagrams go out before a pause, so that a receiver's buffer holds them.
 const BURST: u64 = 32;
@@ -102,8 +101,8 @@ impl Candidate {
     /// What the invigilator says; then what the line held back, and what is due.
     fn pass(&mut self) -> io::Result<()> {
         self.now = self.clock.now();
-        let end = &mut self.end;
-        drain(&self.socket, |bytes, _| end.receive(bytes))?;
+        let (end, now) = (&mut self.end, self.now);
+        drain(&self.socket, |bytes, _| end.receive(bytes, now))?;
         // What is told is said to be as old as it is after all this was taken.
         self.now = self.clock.now();
         let released = self.bad_line.release();
@@ -117,26 +116,13 @@ impl Candidate {
         self.end.is_shown(self.desk.screen.pair())
     }
 
-    fn paint(&mut self, canvas: &mut Canvas) {
-        match self.front.page() {
-            Some(Page::Help) => help::page(canvas, "CANDIDATE: THE KEYS", [help::CANDIDATE, &[]]),
-            Some(Page::Submitted(back)) => {
-                let back = submitted::page(canvas, &self.told_in(canvas.size.cols), &self.desk.submitted, back);
-                self.front.is_back(back);
-            }
-            None => self.paint_screen(canvas),
-        }
-    }
-
     /// The screen, and under it what there is to know about the sitting and the submitted lines, where they have room. Before anything is typed the
     /// screen, which is empty, makes room for the first.
     fn paint_screen(&mut self, canvas: &mut Canvas) {
         let Size { cols, rows } = canvas.size;
-        let (new, whole) = (self.desk.screen.serial() == 0, self.told_in(cols));
-        let lists = rows > SCREEN + AROUND;
-        let status = self.status(if lists { None } else { Some(cols) });
-        let room = if new { rows - AROUND - 2 } else { rows.saturating_sub(SCREEN + AROUND + !self.desk.submitted.is_empty() as usize) };
-        let notice = if whole.len() <= room { whole } else { self.notice.iter().map(|told| told.what.clone()).take(room).collect() };
+        let new = self.desk.screen.serial() == 0;
+        let notice = self.notice_in(cols, if new { rows - AROUND - 2 } else { self.rows_for_notice(rows) });
+        let status = self.status(rows <= SCREEN + AROUND, notice.is_empty(), cols);
         let area = Area { left: 0, cols, rows: if new { rows - notice.len() } else { rows } };
         let screen = &self.desk.screen;
         let panel = Panel { title: title(screen), hint: HINT, shown: Some(screen), status, table: &self.desk.table };
@@ -146,14 +132,28 @@ impl Candidate {
         submitted::list(canvas, painted.below + notice.len(), &self.desk.submitted);
     }
 
-    /// What is known of the invigilator, or what is asked; how one types; and in one row of so many columns the last submitted line.
-    fn status(&self, one_row: Option<usize>) -> Vec<Vec<Part>> {
-        let submitted = one_row.and_then(|cols| submitted::in_a_row(&self.desk.submitted, cols));
-        let first = match self.front.question(self.desk.other_width()) {
-            Some(question) => vec![question],
-            None => self.invigilator(),
-        };
-        vec![first, self.words.of(&self.desk.screen), submitted.into_iter().collect()]
+    /// The last submitted line has a row before them.
+    fn rows_for_notice(&self, rows: usize) -> usize {
+        rows.saturating_sub(SCREEN + AROUND + !self.desk.submitted.is_empty() as usize)
+    }
+
+    /// What there is to know about the sitting, without the reasons if they have no room.
+    fn notice_in(&self, cols: usize, rows: usize) -> Vec<String> {
+        let whole = self.told_in(cols);
+        if whole.len() <= rows {
+            whole
+        } else {
+            self.notice.iter().map(|told| told.what.clone()).take(rows).collect()
+        }
+    }
+
+    /// What is known of the invigilator, or what is asked; how one types; and what has no row of its own.
+    fn status(&self, last_line: bool, note: bool, cols: usize) -> Vec<Vec<Part>> {
+        let first = self.front.question(self.desk.other_width()).map_or_else(|| self.invigilator(), |question| vec![question]);
+        let note = (note && !self.notice.is_empty()).then(|| ("note on the sitting: Ctrl-P".into(), YELLOW));
+        let submitted = if last_line { submitted::in_a_row(&self.desk.submitted, cols) } else { None };
+        let words = self.words.of(&self.desk.screen).into_iter().chain(note).collect();
+        vec![first, words, submitted.into_iter().collect()]
     }
 
     /// What there is to know about the sitting: what follows, and why.
@@ -173,11 +173,17 @@ impl Candidate {
 
     /// What is known of the invigilator, and where it should be if nothing is.
     fn invigilator(&self) -> Vec<Part> {
-        let problem = self.problem.as_ref().map(|problem| (format!("nothing can be sent to {}: {problem}", self.to), RED));
+        let problem = self.problem.as_ref().map(|problem| (format!("cannot send to {}: {}", self.to, in_words(problem)), RED));
         let told = told::by(&self.end, self.desk.screen.pair(), self.now);
         let at = (problem.is_none() && self.end.told().is_none()).then(|| (format!("at {}", self.to), PLAIN));
         problem.into_iter().chain(told).chain(at).collect()
     }
+}
+
+/// Without the system's number of it.
+fn in_words(problem: &io::Error) -> String {
+    let told = problem.to_string();
+    told.split(" (os error").next().unwrap_or(&told).into()
 }
 
 /// Who it is, and where the screen stands.
@@ -191,12 +197,19 @@ impl Program for Candidate {
         self.pass()
     }
 
-    fn canvas(&mut self, size: Size) -> Canvas {
-        self.front.too_small(size).unwrap_or_else(|| {
-            let mut canvas = Canvas::new(size);
-            self.paint(&mut canvas);
-            canvas
-        })
+    fn front(&self) -> &Front {
+        &self.front
+    }
+
+    fn paint(&mut self, canvas: &mut Canvas) {
+        match self.front.page() {
+            Some(Page::Help) => help::page(canvas, "CANDIDATE: THE KEYS", [help::CANDIDATE, &[]]),
+            Some(Page::Submitted(back)) => {
+                let back = submitted::page(canvas, &self.told_in(canvas.size.cols), &self.desk.submitted, back);
+                self.front.is_back(back);
+            }
+            None => self.paint_screen(canvas),
+        }
     }
 
     fn input(&mut self, input: Input, size: Size) -> Then {
@@ -297,9 +310,9 @@ mod tests {
         let (mut invigilator, now) = (line::Invigilator::new(&shared), candidate.now);
         let sent = candidate.end.full(&candidate.desk.screen, now);
         invigilator.receive(&sent[0], candidate.to, now);
-        candidate.end.receive(&invigilator.ask(now)[0].1);
+        candidate.end.receive(&invigilator.ask(now)[0].1, now);
         candidate.now += Duration::from_millis(2_500);
-        assert_eq!((said(&candidate).as_str(), candidate.is_shown()), ("the invigilator shows call 0 of 0, heard 2.5 s ago", true));
+        assert_eq!((said(&candidate).as_str(), candidate.is_shown()), ("the invigilator shows call 0 of 0, as of 2.5 s ago", true));
         candidate.clock.slept(Duration::from_secs(3_600));
         candidate.pass().unwrap();
         candidate.problem = None;
@@ -308,7 +321,10 @@ mod tests {
         assert!(!candidate.is_shown());
         candidate.problem = Some(io::ErrorKind::NetworkUnreachable.into());
         let both = said(&candidate);
-        assert!(both.starts_with("nothing can be sent to 127.0.0.1:9: ") && both.contains(", NO INVIGILATOR HEARD for "), "{both}");
+        assert!(
+            both.starts_with("cannot send to 127.0.0.1:9: network unreachable, ") && both.contains(", NO INVIGILATOR HEARD for "),
+            "{both}"
+        );
     }
 
     #[test]
@@ -344,7 +360,8 @@ mod tests {
         scene.candidate.input(Input::Submitted, USUAL);
         assert_eq!(scene.rows(24)[..3], ["NOTHING SUBMITTED YET", "notice 0", "  because of 0"]);
         assert_eq!(scene.candidate.input(Input::Leave, USUAL), Then::GoOn);
-        assert!(scene.rows(24)[21].starts_with("Leave? "));
+        let question = "Leave? What was typed is lost. Ctrl-Q again: yes, else: no";
+        assert_eq!(scene.rows(24)[21], format!("{question:66}▼ 5 rows below"), "all of it");
         scene.types("B");
         assert!(scene.rows(24)[1].starts_with("AB ") && !scene.rows(24)[21].starts_with("Leave? "));
         assert_eq!([Input::Leave; 2].map(|input| scene.candidate.input(input, USUAL)), [Then::GoOn, Then::Leave]);
@@ -358,6 +375,7 @@ mod tests {
         assert_eq!(scene.below(33), whole);
         scene.types("A");
         assert_eq!(scene.below(24), [""; 0], "and has its rows when something is typed");
+        assert_eq!(scene.rows(24)[22], "room for 254  note on the sitting: Ctrl-P");
         assert_eq!(scene.below(30), ["notice 0"]);
         assert_eq!(scene.below(31), ["notice 0", "notice 1"]);
         assert_eq!(scene.below(33), whole);

@@ -79,10 +79,15 @@ impl Canvas {
         self.text_to(row, col..self.size.cols, text, attr);
     }
 
-    /// Texts in one row, two spaces between them.
+    /// Texts in one row, two spaces between them. One that has no room is left out with those behind it, and `…` tells so; the first is cut.
     pub fn parts(&mut self, row: usize, cols: Range<usize>, parts: &[Part]) {
         let mut col = cols.start;
-        for (text, attr) in parts {
+        for (at, (text, attr)) in parts.iter().enumerate() {
+            let behind = if at + 1 < parts.len() && length_of(&parts[at..]) > cols.end.saturating_sub(col) { APART + 1 } else { 0 };
+            if at > 0 && col + length(text) + behind > cols.end {
+                self.text_to(row, col..cols.end, "…", *attr);
+                return;
+            }
             self.text_to(row, col..cols.end, text, *attr);
             col += length(text) + APART;
         }
@@ -153,36 +158,21 @@ pub fn fitting(text: &str, cols: usize) -> String {
     text.chars().take(cols.saturating_sub(1)).chain(['…']).take(cols).collect()
 }
 
-/// Groups of texts in rows that have so many columns each. A group begins a row, if there are rows enough; a text that does not fit behind the one
-/// before it begins one too. What is too much for the last row is cut there.
+/// Groups of texts in rows that have so many columns each. A group begins a row, as long as one is left for each group behind it; a text that does not
+/// fit behind the one before it begins one too. What is too much is in the last row.
 pub fn flowed(groups: &[Vec<Part>], rows: &[usize]) -> Vec<Vec<Part>> {
-    let apart = groups.iter().try_fold(Vec::new(), |before, group| Some([&before[..], &flow(group, rows.get(before.len()..)?)?].concat()));
-    apart.unwrap_or_else(|| {
-        let parts: Vec<_> = groups.concat();
-        flow(&parts, rows).unwrap_or_else(|| cut(parts, rows))
-    })
-}
-
-/// The rows of these texts, if there are enough.
-fn flow(parts: &[Part], rows: &[usize]) -> Option<Vec<Vec<Part>>> {
     let mut flowed: Vec<Vec<Part>> = Vec::new();
-    for part in parts {
-        let count = flowed.len();
-        match flowed.last_mut() {
-            Some(row) if length_of(row) + APART + length(&part.0) <= rows[count - 1] => row.push(part.clone()),
-            _ if count == rows.len() => return None,
-            _ => flowed.push(vec![part.clone()]),
+    let groups: Vec<_> = groups.iter().filter(|group| !group.is_empty()).collect();
+    for (nth, group) in groups.iter().enumerate() {
+        for (at, part) in group.iter().enumerate() {
+            let (count, left) = (flowed.len(), rows.len() - flowed.len());
+            let begins = at == 0 && left >= groups.len() - nth;
+            match flowed.last_mut() {
+                Some(row) if left == 0 || !begins && length_of(row) + APART + length(&part.0) <= rows[count - 1] => row.push(part.clone()),
+                _ => flowed.push(vec![part.clone()]),
+            }
         }
     }
-    Some(flowed)
-}
-
-/// As many of the first texts as there are rows for, and in the last row what is left, which the edge cuts.
-fn cut(mut parts: Vec<Part>, rows: &[usize]) -> Vec<Vec<Part>> {
-    let Some(above) = rows.len().checked_sub(1) else { return Vec::new() };
-    let first = (0..=parts.len()).rev().find_map(|count| Some((count, flow(&parts[..count], &rows[..above])?)));
-    let (count, mut flowed) = first.unwrap_or_default();
-    flowed.push(parts.split_off(count));
     flowed
 }
 
@@ -256,16 +246,23 @@ mod tests {
 
     #[test]
     fn parts_of_a_row() {
+        let shown = |cols| {
+            let mut canvas = Canvas::new(Size { cols: 24, rows: 1 });
+            canvas.parts(0, 1..cols, &[part("BED 12"), part("is"), part("free")]);
+            canvas.line(0)
+        };
+        assert_eq!(shown(17), " BED 12  is  free");
+        assert_eq!(shown(16), " BED 12  is  …", "what has no room is told to be missing, and is not cut");
+        assert_eq!([14, 13, 12].map(shown), [" BED 12  is  …", " BED 12  …", " BED 12  …"]);
+        assert_eq!([10, 9, 7, 6].map(shown), [" BED 12  …", " BED 12", " BED 12", " BED …"]);
         let mut canvas = Canvas::new(Size { cols: 20, rows: 1 });
-        canvas.parts(0, 1..16, &[part("BED"), part("12"), part("is free")]);
-        assert_eq!(canvas.line(0), " BED  12  is fr…");
         canvas.text_before(0, 20, "END", PLAIN);
-        assert_eq!(canvas.line(0), " BED  12  is fr… END");
+        assert_eq!(canvas.line(0), "                 END");
     }
 
     #[test]
-    fn groups_begin_a_row_each_where_there_are_rows_enough() {
-        let groups = [vec![part("LEVEL"), part("0.2 s")], vec![part("call 62"), part("INSERT")]];
+    fn groups_begin_a_row_each_while_there_are_rows_enough() {
+        let groups = [vec![part("LEVEL"), part("0.2 s")], vec![], vec![part("call 62"), part("INSERT")]];
         let shown = |rows: &[usize]| {
             let rows = flowed(&groups, rows);
             rows.iter().map(|row| row.iter().map(|(text, _)| text.as_str()).collect::<Vec<_>>().join("  ")).collect::<Vec<_>>()
@@ -273,10 +270,9 @@ mod tests {
         assert_eq!(shown(&[15, 15, 15]), ["LEVEL  0.2 s", "call 62  INSERT"]);
         assert_eq!(shown(&[15, 14, 15]), ["LEVEL  0.2 s", "call 62", "INSERT"]);
         assert_eq!(shown(&[11, 15, 15]), ["LEVEL", "0.2 s", "call 62  INSERT"]);
-        assert_eq!(shown(&[11, 14, 14]), ["LEVEL", "0.2 s  call 62", "INSERT"], "no row is left for a group of its own");
-        assert_eq!(shown(&[12, 9]), ["LEVEL  0.2 s", "call 62  INSERT"], "the edge cuts what is too much");
+        assert_eq!(shown(&[11, 15]), ["LEVEL", "0.2 s  call 62  INSERT"], "no row is left for a group of its own");
+        assert_eq!(shown(&[12, 9]), ["LEVEL  0.2 s", "call 62  INSERT"]);
         assert_eq!(shown(&[3]), ["LEVEL  0.2 s  call 62  INSERT"]);
-        assert_eq!(shown(&[]), [""; 0]);
     }
 
     #[test]

@@ -6,7 +6,9 @@ use crate::terminal::Input;
 
 /// What every program needs: 80 columns whatever the screen's width, and rows for the page of keys.
 pub const NEEDED: Size = Size { cols: 80, rows: 18 };
-const LEAVE: &str = "Leave? What was typed is gone then. Ctrl-Q again leaves, any other key stays";
+/// The way to the page of keys.
+pub const HINT: &str = "Ctrl-G: help";
+const LEAVE: &str = "Leave? What was typed is lost. Ctrl-Q again: yes, else: no";
 
 #[derive(Clone, Copy, PartialEq, Eq, Debug)]
 pub enum Page {
@@ -56,7 +58,7 @@ impl Front {
             Input::Submitted => self.page = Some(Page::Submitted(0)),
             Input::Key(Key::Width) => return self.answer(asked, Question::Width, input),
             _ => {
-                self.typed |= self.typing && matches!(input, Input::Key(_));
+                self.typed |= self.typing && matches!(input, Input::Key(key) if !key.only_moves());
                 return Some(input);
             }
         }
@@ -85,7 +87,7 @@ impl Front {
     pub fn question(&self, other_width: u32) -> Option<Part> {
         let question = match self.asked? {
             Question::Leave => LEAVE.into(),
-            Question::Width => format!("Clear the screen? Ctrl-W again makes it {other_width} wide and empty, any other key stays"),
+            Question::Width => format!("Clear it for {other_width} columns? Ctrl-W again: yes, else: no"),
         };
         Some((question, REVERSED))
     }
@@ -99,7 +101,8 @@ impl Front {
         let sentence =
             format!("The terminal is too small: it has {has}, and {needs} are needed. Make it larger, or press Ctrl-Q to leave.");
         let question = self.asked.filter(|asked| *asked == Question::Leave).map(|_| (LEAVE.into(), RED));
-        let lines = [Some((sentence, STRONG)), question].into_iter().flatten();
+        // Where there is room for few words, they are the question's.
+        let lines = [question, Some((sentence, STRONG))].into_iter().flatten();
         let lines = lines.flat_map(|(text, attr)| wrapped(&text, size.cols).into_iter().map(move |line| (line, attr)));
         let mut canvas = Canvas::new(size);
         lines.enumerate().for_each(|(row, (line, attr))| canvas.text(row, 0, &line, attr));
@@ -138,15 +141,18 @@ mod tests {
     fn what_was_typed_is_not_lost_without_a_question() {
         let mut front = Front::new(true);
         assert_eq!(taken(&mut front, &[WIDTH, Input::Leave]), [Some(WIDTH), Some(Input::Leave)], "nothing was typed yet");
+        let right = Input::Key(Key::Right);
+        assert_eq!(taken(&mut front, &[right, Input::Leave]), [Some(right), Some(Input::Leave)], "nor by a key that only moves");
         assert_eq!(taken(&mut front, &[A, Input::Leave]), [Some(A), None]);
-        assert!(said(&front).contains("Ctrl-Q again leaves"));
+        assert!(said(&front).contains("Ctrl-Q again: yes"));
         assert_eq!(taken(&mut front, &[A]), [Some(A)], "any other key goes on");
         assert_eq!(said(&front), "");
         assert_eq!(taken(&mut front, &[Input::Leave, Input::Leave]), [None, Some(Input::Leave)]);
         assert_eq!(taken(&mut front, &[WIDTH]), [None]);
-        assert!(said(&front).contains("40 wide and empty"));
+        assert!(said(&front).contains("for 40 columns? Ctrl-W again: yes"));
         assert_eq!(taken(&mut front, &[Input::Leave, WIDTH, WIDTH]), [None, None, Some(WIDTH)], "each has a question of its own");
         assert_eq!(taken(&mut front, &[WIDTH, Input::Help, WIDTH]), [None, None, None], "a page is another key too");
+        assert_eq!(taken(&mut front, &[Input::Leave, Input::Unknown, Input::Leave]), [None, Some(Input::Unknown), None], "any other key");
     }
 
     #[test]
@@ -161,6 +167,7 @@ mod tests {
         assert_eq!(taken(&mut front, &[Input::Help]), [None]);
         assert_eq!(front.page(), Some(Page::Help));
         assert_eq!((taken(&mut front, &[A]), front.page()), (vec![None], None), "that key is not typed");
+        assert_eq!((taken(&mut front, &[Input::Help, Input::Unknown]), front.page()), (vec![None, None], None), "any key");
         taken(&mut front, &[Input::Submitted, Input::Back, Input::Back, Input::Forth]);
         assert_eq!(front.page(), Some(Page::Submitted(16)));
         front.is_back(3);
@@ -181,7 +188,7 @@ mod tests {
         assert_eq!([A, WIDTH, Input::Help, Input::Leave].map(|input| front.take(input, SMALLER)), [None; 4]);
         let sentence = "The terminal is too small: it has 80 columns and 17 rows, and 80 and 18 are needed. \
                         Make it larger, or press Ctrl-Q to leave.";
-        assert_eq!(shown(&front), format!("{sentence} {}", said(&front)));
+        assert_eq!(shown(&front), format!("{} {sentence}", said(&front)));
         assert_eq!(front.take(A, SMALLER), None);
         assert_eq!(shown(&front), sentence);
         assert_eq!([Input::Leave; 2].map(|input| front.take(input, SMALLER)), [None, Some(Input::Leave)]);

@@ -1,14 +1,14 @@
 //! One terminal for both: the candidate's screen, the invigilator's mirror, and a simulated line between them. Side by side where there is room, else one
 //! half at a time.
 use crate::bad_line::{BadLine, Faults};
-use crate::candidate::{self, HINT};
+use crate::candidate;
 use crate::canvas::{Canvas, Part, Size, PLAIN, RED};
 use crate::clock::Clock;
 use crate::desk::Desk;
-use crate::front::{Front, Page};
+use crate::front::{Front, Page, HINT};
 use crate::help;
 use crate::keys::Key;
-use crate::panel::{Area, Painted, Panel, AROUND, SCREEN};
+use crate::panel::{Area, Painted, Panel};
 use crate::span;
 use crate::submitted;
 use crate::terminal::{self, Input, Program, Then};
@@ -96,7 +96,7 @@ impl Halves {
         self.now = now;
         let asked = self.invigilator.ask(now).into_iter().flat_map(|(_, question)| self.back.send(question)).collect::<Vec<_>>();
         for question in asked.into_iter().chain(self.back.release()) {
-            self.candidate.receive(&question);
+            self.candidate.receive(&question, now);
         }
         let released = self.there.release();
         let due = self.candidate.due(&self.desk.screen, now);
@@ -151,70 +151,58 @@ impl Halves {
         (2 * half < size.cols).then_some(half)
     }
 
-    fn paint(&mut self, canvas: &mut Canvas) {
-        match self.front.page() {
-            Some(Page::Help) => help::page(canvas, "THE KEYS", [help::CANDIDATE, help::DEMO]),
-            Some(Page::Submitted(back)) => {
-                let back = submitted::page(canvas, &[], &self.desk.submitted, back);
-                self.front.is_back(back);
-            }
-            None => self.paint_screens(canvas),
-        }
-    }
-
     fn paint_screens(&mut self, canvas: &mut Canvas) {
         let Size { cols, rows } = canvas.size;
         let area = |left, cols| Area { left, cols, rows: rows - LINE };
         let below = match self.half(canvas.size) {
-            Some(half) => {
-                let candidate = self.paint_candidate(canvas, area(0, half), "");
-                let mirror = self.paint_mirror(canvas, area(half + 1, cols - half - 1));
-                (0..candidate.below).for_each(|row| canvas.text_to(row, half..half + 1, "│", PLAIN));
-                canvas.cursor = candidate.cursor;
-                mirror.cursor.into_iter().for_each(|(row, col)| canvas.reverse(row, col));
-                candidate.below
-            }
+            Some(half) => self.paint_both(canvas, area(0, half), area(half + 1, cols - half - 1)),
             None => {
-                let half = if self.mirror_in_sight {
-                    self.paint_mirror(canvas, area(0, cols))
-                } else {
-                    self.paint_candidate(canvas, area(0, cols), HINT)
-                };
+                let area = area(0, cols);
+                let half = if self.mirror_in_sight { self.paint_mirror(canvas, area) } else { self.paint_candidate(canvas, area) };
                 canvas.cursor = half.cursor;
                 half.below
             }
         };
-        let under = self.front.question(self.desk.other_width()).map_or_else(|| self.line(canvas.size), |question| vec![question]);
-        canvas.parts(below, 0..cols, &under);
+        let lists = rows > below + LINE;
+        let under = self.front.question(self.desk.other_width()).map_or_else(|| self.line(canvas.size, !lists), |question| vec![question]);
+        canvas.text_before(below, cols, HINT, PLAIN);
+        canvas.parts(below, 0..cols - HINT.len() - 2, &under);
         submitted::list(canvas, below + LINE, &self.desk.submitted);
     }
 
-    fn paint_candidate(&mut self, canvas: &mut Canvas, area: Area, hint: &str) -> Painted {
-        let Desk { screen, table, submitted } = &self.desk;
-        let lists = canvas.size.rows > SCREEN + AROUND + LINE;
-        let submitted = if lists { None } else { submitted::in_a_row(submitted, area.cols) };
-        let told = told::by(&self.candidate, screen.pair(), self.now);
-        let status = vec![told, self.words.of(screen), submitted.into_iter().collect()];
-        let panel = Panel { title: candidate::title(screen), hint, shown: Some(screen), status, table };
+    /// Side by side; the first row under both.
+    fn paint_both(&mut self, canvas: &mut Canvas, left: Area, right: Area) -> usize {
+        let (candidate, mirror) = (self.paint_candidate(canvas, left), self.paint_mirror(canvas, right));
+        (0..candidate.below).for_each(|row| canvas.text_to(row, left.cols..right.left, "│", PLAIN));
+        canvas.cursor = candidate.cursor;
+        mirror.cursor.into_iter().for_each(|(row, col)| canvas.reverse(row, col));
+        candidate.below
+    }
+
+    fn paint_candidate(&mut self, canvas: &mut Canvas, area: Area) -> Painted {
+        let Desk { screen, table, .. } = &self.desk;
+        let status = vec![told::by(&self.candidate, screen.pair(), self.now), self.words.of(screen)];
+        let panel = Panel { title: candidate::title(screen), hint: "", shown: Some(screen), status, table };
         panel.paint(canvas, area, &mut self.windows[0])
     }
 
     fn paint_mirror(&mut self, canvas: &mut Canvas, area: Area) -> Painted {
         let follower = &self.invigilator.follower;
-        let hint = if self.view.earlier(follower).is_some() { HINT_BACK } else { HINT };
+        let hint = if self.view.earlier(follower).is_some() { HINT_BACK } else { "" };
         let (title, status) = (self.view.title(follower), self.view.status(follower, self.now).into());
         let panel = Panel { title, hint, shown: self.view.screen(follower), status, table: &self.desk.table };
         panel.paint(canvas, area, &mut self.windows[1])
     }
 
-    /// The line between the two, and the key to the other half where that is not in sight.
-    fn line(&self, size: Size) -> Vec<Part> {
+    /// The key to the other half where that is not in sight, the last submitted line if it has no other row, and the line between the two.
+    fn line(&self, size: Size, last_line: bool) -> Vec<Part> {
         let other = if self.mirror_in_sight { "Ctrl-T: candidate" } else { "Ctrl-T: mirror" };
         let other = self.half(size).is_none().then(|| (other.into(), PLAIN));
         let cut = self.there.cut.then(|| ("line CUT".into(), RED));
+        let submitted = if last_line { submitted::in_a_row(&self.desk.submitted, size.cols / 2) } else { None };
         let (lost, held) = (self.there.lost + self.back.lost, self.there.held() + self.back.held());
         let line = [(self.there.faults.to_string(), PLAIN), (format!("lost {lost}, held back {held}"), PLAIN)];
-        cut.into_iter().chain(other).chain(line).collect()
+        cut.into_iter().chain(other).chain(submitted).chain(line).collect()
     }
 }
 
@@ -226,12 +214,19 @@ impl Program for Halves {
         Ok(())
     }
 
-    fn canvas(&mut self, size: Size) -> Canvas {
-        self.front.too_small(size).unwrap_or_else(|| {
-            let mut canvas = Canvas::new(size);
-            self.paint(&mut canvas);
-            canvas
-        })
+    fn front(&self) -> &Front {
+        &self.front
+    }
+
+    fn paint(&mut self, canvas: &mut Canvas) {
+        match self.front.page() {
+            Some(Page::Help) => help::page(canvas, "THE KEYS", [help::CANDIDATE, help::DEMO]),
+            Some(Page::Submitted(back)) => {
+                let back = submitted::page(canvas, &[], &self.desk.submitted, back);
+                self.front.is_back(back);
+            }
+            None => self.paint_screens(canvas),
+        }
     }
 
     fn input(&mut self, input: Input, size: Size) -> Then {
@@ -242,6 +237,8 @@ impl Program for Halves {
                 self.arrive(arriving);
             }
             Some(Input::Key(key)) => {
+                // Nobody types on a screen that is not shown: the key leads to it.
+                self.mirror_in_sight = false;
                 let arriving = self.press(key);
                 self.arrive(arriving);
             }
@@ -299,10 +296,13 @@ mod tests {
         halves.now = now + Duration::from_secs(600);
         let [candidate, mirror] = halves_of(&mut halves);
         assert_eq!(candidate, ["NO INVIGILATOR HEARD yet", "room for 255", ""]);
-        let expected = ["INVIGILATOR  sitting 1      Ctrl-G: help", "SILENT for 600 s  BEHIND by 12", "the screen of 600 s ago"];
+        let expected = ["INVIGILATOR  sitting 1", "SILENT for 600 s  BEHIND by 12", "the screen of 600 s ago"];
         assert_eq!(mirror[..3], expected);
-        assert_eq!(mirror[3], "shows call 100 of 112  room for 255  1 …", "but for how many sittings there were");
-        let line = "line CUT  loss 100%, repeat 100%, reorder 100%  lost 9999999, held back 0";
+        assert_eq!(mirror[3], "shows call 100 of 112  room for 255  …", "but for how many sittings there were");
+        let line = "line CUT  loss 100%, repeat 100%, reorder 100%  …                    Ctrl-G: help";
+        assert_eq!(shown(&mut halves, BOTH)[29], line);
+        (halves.there.cut, halves.there.faults, halves.there.lost) = (false, FAULTS, 99);
+        let line = "loss 10%, repeat 10%, reorder 30%  lost 99, held back 0              Ctrl-G: help";
         assert_eq!(shown(&mut halves, BOTH)[29], line);
     }
 
@@ -317,10 +317,10 @@ mod tests {
         }
         halves.turn(Input::Back);
         let expected = [
-            "NOT CURRENT: sitting 1    PageDown: back",
-            "call 1000 of 1000  now LEVEL, 0.3 s",
-            "sitting 2  shows call 7 of 7",
-            "older sitting 1 heard 0.0 s ago  2 sitt…",
+            "NOT CURRENT: sitting 1   PageDown: newer",
+            "shows call 1000 of 1000  room for 255",
+            "current: sitting 2, call 7 of 7",
+            "LEVEL, 0.3 s  …",
         ];
         assert_eq!(halves_of(&mut halves)[1], expected);
     }
@@ -332,7 +332,7 @@ mod tests {
         halves.arrive(first);
         b"WARD 7".iter().for_each(|&ch| assert_eq!(halves.input(Input::Key(Key::Char(ch)), USUAL), Then::GoOn));
         let candidate = shown(&mut halves, USUAL);
-        assert!(candidate[0].starts_with("CANDIDATE  sitting 1  call 6") && candidate[0].ends_with("Ctrl-G: help"), "{}", candidate[0]);
+        assert!(candidate[0].starts_with("CANDIDATE  sitting 1  call 6") && candidate[23].ends_with("Ctrl-G: help"), "{}", candidate[0]);
         assert_eq!((candidate[1].as_str(), candidate[19].starts_with("1LIST")), ("WARD 7", true));
         assert!(candidate[20].ends_with("▼ 6 rows below") && candidate[23].starts_with("Ctrl-T: mirror"), "{}", candidate.join("\n"));
         halves.input(Input::Other, USUAL);
@@ -340,6 +340,10 @@ mod tests {
         assert!(mirror[0].starts_with("INVIGILATOR  sitting 1") && mirror[23].starts_with("Ctrl-T: candidate"), "{}", mirror.join("\n"));
         assert_eq!(mirror[1..20], candidate[1..20]);
         assert_eq!(halves.canvas(USUAL).cursor, Some((1, 6)));
+        halves.input(Input::Key(Key::Char(b'!')), USUAL);
+        assert_eq!(shown(&mut halves, USUAL)[1], "WARD 7!", "a key leads to the screen on which it is typed");
+        assert!(shown(&mut halves, USUAL)[0].starts_with("CANDIDATE"));
+        halves.input(Input::Other, USUAL);
         // In a wider one both are in sight, whichever was before.
         let both = shown(&mut halves, Size { cols: 161, rows: 24 });
         assert!(both[0].starts_with("CANDIDATE") && both[0].contains("INVIGILATOR") && both[1].matches("WARD 7").count() == 2);
@@ -351,7 +355,7 @@ mod tests {
         let width = Input::Key(Key::Width);
         halves.input(Input::Key(Key::Char(b'A')), BOTH);
         halves.input(width, BOTH);
-        assert_eq!((halves.desk.screen.width(), shown(&mut halves, BOTH)[29].starts_with("Clear the screen?")), (40, true));
+        assert_eq!((halves.desk.screen.width(), shown(&mut halves, BOTH)[29].starts_with("Clear it for 80 columns?")), (40, true));
         halves.input(width, BOTH);
         assert_eq!((halves.desk.screen.width(), halves.half(BOTH)), (80, None), "and is shown a half at a time");
         assert_eq!([Input::Leave; 2].map(|input| halves.input(input, BOTH)), [Then::GoOn, Then::Leave]);

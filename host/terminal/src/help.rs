@@ -19,25 +19,26 @@ const fn destroying(key: &'static str, does: &'static str) -> Entry {
 
 pub const CANDIDATE: &[Entry] = &[
     key("Enter", "submits the line"),
-    key("Ctrl-J", "joins the next row to it"),
+    key("Ctrl-Enter, -J", "adds the next row to it"),
     key("Arrows", "move the cursor"),
     key("Ctrl-Left", "to the word before"),
     key("Ctrl-Right", "to the next word"),
-    key("Home, End", "screen's top, line's end"),
+    key("Home, End", "top left, line's end"),
     key("Tab", "to the next 8th column"),
     key("Ins", "insert on and off"),
     destroying("Backspace", "deletes the one before"),
     destroying("Del", "deletes the character"),
     destroying("Esc", "deletes the whole line"),
-    destroying("Ctrl-End, -E", "erases to the line's end"),
+    destroying("Alt-letter", "Esc, then the letter"),
+    destroying("Ctrl-End, -E", "erases to line's end"),
     destroying("Ctrl-Home", "clears the screen"),
-    key("Ctrl-C", "next row, nothing sent"),
-    key("F1 to F10", "type what the strip says;"),
-    key("", "one with ← submits it too"),
+    key("Ctrl-C", "next row, no submitting"),
+    key("F1 to F10", "type the strip's texts;"),
+    key("", "a ← in one submits it"),
     key("Ctrl-A", "the next colour"),
     key("Ctrl-K", "key strip on and off"),
     destroying("Ctrl-W", "the other width; clears"),
-    key("Ctrl-P", "lists submitted lines"),
+    key("Ctrl-P", "submitted lines, notes"),
     key("Ctrl-G", "this page"),
     destroying("Ctrl-Q", "leaves"),
 ];
@@ -46,7 +47,7 @@ pub const CANDIDATE: &[Entry] = &[
 pub const DEMO: &[Entry] = &[
     key("Ctrl-T", "the other half"),
     key("PageUp", "mirror: sitting before"),
-    key("PageDown", "mirror: forth to current"),
+    key("PageDown", "mirror: newer again"),
     key("Ctrl-X", "cuts the line, joins it"),
     key("Ctrl-L, R, O", "loss, repeats, reorders"),
     destroying("Ctrl-N", "the candidate restarts"),
@@ -54,7 +55,7 @@ pub const DEMO: &[Entry] = &[
 
 pub const INVIGILATOR: &[Entry] = &[
     key("PageUp", "the last screen of the sitting before"),
-    key("PageDown", "forth again, to the current screen"),
+    key("PageDown", "newer again, at last the current screen"),
     key("Up, Down", "move the window where not all rows have room"),
     key("Home", "the window follows the cursor again"),
     key("Ctrl-G, F1", "this page"),
@@ -62,13 +63,13 @@ pub const INVIGILATOR: &[Entry] = &[
 ];
 
 /// One row for the title, an empty one, and one for the legend.
-const AROUND: usize = 3;
+const BESIDES: usize = 3;
 /// Columns of the mark and a key.
-const KEY: usize = 15;
+const KEY: usize = 17;
 
 /// In one column if the smallest terminal has the rows, else in two.
 fn columns(entries: usize) -> usize {
-    if entries + AROUND <= NEEDED.rows {
+    if entries + BESIDES <= NEEDED.rows {
         1
     } else {
         2
@@ -106,7 +107,7 @@ mod tests {
             let shown: Vec<_> = (0..NEEDED.rows).map(|row| canvas.line(row)).collect();
             assert!(shown.iter().any(|line| line.ends_with("Any key goes back.")) && !shown.concat().contains('…'), "{}", shown.join("\n"));
             for Entry { key, does, destroys } in lists.into_iter().flatten() {
-                let row = format!("{} {key:<12} {does}", if *destroys { '!' } else { ' ' });
+                let row = format!("{} {key:<14} {does}", if *destroys { '!' } else { ' ' });
                 assert!(shown.iter().any(|line| line.contains(&row)), "'{row}' is not in\n{}", shown.join("\n"));
             }
         }

@@ -1,8 +1,7 @@
 //! The invigilator's program, over UDP.
-use crate::candidate::HINT;
 use crate::canvas::{Canvas, Part, Size, PLAIN, RED, STRONG, YELLOW};
 use crate::clock::Clock;
-use crate::front::{Front, Page};
+use crate::front::{Front, Page, HINT};
 use crate::help;
 use crate::keys::Key;
 use crate::panel::{Area, Panel};
@@ -64,21 +63,9 @@ impl Invigilator {
         Ok(())
     }
 
-    fn paint(&mut self, canvas: &mut Canvas) {
-        if self.front.page() == Some(Page::Help) {
-            return help::page(canvas, "INVIGILATOR: THE KEYS", [help::INVIGILATOR, &[]]);
-        }
-        let follower = &self.end.follower;
-        let (status, title, shown) = (self.status(), self.view.title(follower), self.view.screen(follower));
-        let hint = if self.view.earlier(follower).is_some() { HINT_BACK } else { HINT };
-        let panel = Panel { title, hint, shown, status, table: &self.table };
-        let area = Area { left: 0, cols: canvas.size.cols, rows: canvas.size.rows };
-        canvas.cursor = panel.paint(canvas, area, &mut self.window).cursor;
-    }
-
     fn status(&self) -> Vec<Vec<Part>> {
         let [first, second, third] = self.view.status(&self.end.follower, self.now);
-        vec![first, [self.address(), second].concat(), [self.troubles(), third].concat()]
+        vec![first, [self.address(), second].concat(), [self.troubles(), third, self.unreadable()].concat()]
     }
 
     /// Where it listens, while nobody is heard.
@@ -92,11 +79,16 @@ impl Invigilator {
 
     /// What should not be, and what the person at the window should know.
     fn troubles(&self) -> Vec<Part> {
-        let Counts { twice, garbage, .. } = self.end.counts;
+        let Counts { twice, .. } = self.end.counts;
         let twice = (twice > 0).then(|| (format!("SITTING USED TWICE: {twice} datagrams"), RED));
-        let garbage = (garbage > 0).then(|| (format!("unreadable datagrams: {garbage}"), PLAIN));
         let by_hand = self.window.is_moved_by_hand().then(|| ("Home: to the cursor".into(), YELLOW));
-        twice.into_iter().chain(by_hand).chain(garbage).collect()
+        twice.into_iter().chain(by_hand).collect()
+    }
+
+    /// What did not open, or says nothing that a candidate says.
+    fn unreadable(&self) -> Vec<Part> {
+        let Counts { garbage, .. } = self.end.counts;
+        (garbage > 0).then(|| (format!("unreadable datagrams: {garbage}"), PLAIN)).into_iter().collect()
     }
 
     /// The counts, for a run without a terminal.
@@ -112,18 +104,26 @@ impl Program for Invigilator {
         self.pass(|_, _| ())
     }
 
-    fn canvas(&mut self, size: Size) -> Canvas {
-        self.front.too_small(size).unwrap_or_else(|| {
-            let mut canvas = Canvas::new(size);
-            self.paint(&mut canvas);
-            canvas
-        })
+    fn front(&self) -> &Front {
+        &self.front
+    }
+
+    fn paint(&mut self, canvas: &mut Canvas) {
+        if self.front.page() == Some(Page::Help) {
+            return help::page(canvas, "INVIGILATOR: THE KEYS", [help::INVIGILATOR, &[]]);
+        }
+        let follower = &self.end.follower;
+        let (status, title, shown) = (self.status(), self.view.title(follower), self.view.screen(follower));
+        let hint = if self.view.earlier(follower).is_some() { HINT_BACK } else { HINT };
+        let panel = Panel { title, hint, shown, status, table: &self.table };
+        let area = Area { left: 0, cols: canvas.size.cols, rows: canvas.size.rows };
+        canvas.cursor = panel.paint(canvas, area, &mut self.window).cursor;
     }
 
     fn input(&mut self, input: Input, size: Size) -> Then {
         // There is no page of submitted lines here, and no function key types anything.
         let input = match input {
-            Input::Submitted => return Then::GoOn,
+            Input::Submitted => Input::Unknown,
             Input::Key(Key::Function(1)) => Input::Help,
             _ => input,
         };
@@ -281,7 +281,7 @@ mod tests {
         let told = |state: &str| [title.clone(), state.into(), calls.into(), "1 sitting so far".into()];
         assert_eq!(rows(&mut invigilator, Duration::from_millis(150)), told("LEVEL, 0.2 s"));
         assert_eq!(rows(&mut invigilator, Duration::from_millis(2_500)), told("OLD  the screen of 2.5 s ago"));
-        assert_eq!(rows(&mut invigilator, Duration::from_secs(60)), told("SILENT for 60 s  the screen of 60 s ago"));
+        assert_eq!(rows(&mut invigilator, Duration::from_secs(60)), told("SILENT for 60 s  OLD  the screen of 60 s ago"));
     }
 
     #[test]
@@ -294,7 +294,7 @@ mod tests {
         let expected = [
             &titled("INVIGILATOR  sitting 4294967294", HINT),
             "BEGUN: sitting 4294967295  the screen of 4.0 s ago",
-            "no screen of it came yet  line full",
+            "no screen of it came yet  room for 0",
             "older sitting 4294967294 heard 4.0 s ago  2 sittings so far",
         ];
         assert_eq!(rows(&mut invigilator, Duration::from_secs(4)), expected);
@@ -303,9 +303,9 @@ mod tests {
         (invigilator.end.counts.twice, invigilator.end.counts.garbage) = (9_999, 1_234_567);
         let twice = rows(&mut invigilator, Duration::from_secs(4));
         let expected = [
-            "BEGUN: sitting 4294967295  the screen of 4.0 s ago  no screen of it came yet",
-            "line full  SITTING USED TWICE: 9999 datagrams  unreadable datagrams: 1234567",
-            "older sitting 4294967294 heard 4.0 s ago  2 sittings so far",
+            "BEGUN: sitting 4294967295  the screen of 4.0 s ago",
+            "no screen of it came yet  room for 0",
+            "SITTING USED TWICE: 9999 datagrams  older sitting 4294967294 heard 4.0 s ago  …",
         ];
         assert_eq!(twice[1..], expected);
     }
@@ -319,7 +319,7 @@ mod tests {
         invigilator.clock.slept(Duration::from_secs(3_600));
         invigilator.tick().unwrap();
         let [_, state, ..] = rows(&mut invigilator, Duration::ZERO);
-        assert!(state.starts_with("SILENT for 3600 s  the screen of 360"), "{state}");
+        assert!(state.starts_with("SILENT for 3600 s  OLD  the screen of 360"), "{state}");
         assert!(invigilator.rings() && !invigilator.rings(), "once");
         let now = invigilator.now;
         candidates.full(&mut invigilator.end, &screen(5, 4), now);
@@ -339,9 +339,9 @@ mod tests {
         invigilator.input(Input::Back, USUAL);
         let expected = [
             &titled("NOT CURRENT: sitting 4294967294", HINT_BACK),
-            "call 4294967295 of 4294967295  now BEHIND by 3294967295  the screen of 0.0 s ago",
-            "sitting 4294967295  shows call 1000000000 of 4294967295  2 sittings so far",
-            "line full",
+            "shows call 4294967295 of 4294967295  room for 0",
+            "current: sitting 4294967295, call 1000000000 of 4294967295  BEHIND by 3294967295",
+            "its screen of 0.0 s ago  2 sittings so far",
         ];
         assert_eq!(rows(&mut invigilator, Duration::ZERO), expected);
     }

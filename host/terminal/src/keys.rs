@@ -30,6 +30,13 @@ pub enum Key {
     Strip,
 }
 
+impl Key {
+    /// Whether it moves the cursor, and changes nothing else.
+    pub fn only_moves(self) -> bool {
+        matches!(self, Left | Right | Up | Down | CtrlLeft | CtrlRight | Home | End)
+    }
+}
+
 use Key::*;
 
 /// The keys that have a name in a file of keys, written `<Name>`. The others are characters.

@@ -76,7 +76,7 @@ fn paint_rows(
     let strip = SCREEN - editable;
     let height = (high - strip).min(editable);
     let (row, col) = shown.cursor();
-    let top = window.top(row as usize, height, editable);
+    let top = window.top(shown.sitting(), row as usize, height, editable);
     canvas.rows(1, area.left, shown, top as u32..(top + height) as u32);
     if strip > 0 {
         canvas.strip(1 + height, area.left, shown.width(), table);

@@ -31,7 +31,7 @@ impl Candidates {
         hear(invigilator, &sent, screen.sitting(), now);
         for (_, question) in invigilator.ask(now) {
             let candidate = self.of(screen, now);
-            candidate.receive(&question);
+            candidate.receive(&question, now);
             hear(invigilator, &candidate.due(screen, now), screen.sitting(), now);
         }
     }

@@ -46,7 +46,7 @@ impl Words {
 fn words(shown: &impl Shown) -> Vec<Part> {
     let (rows, room) = (rows(shown), room(shown));
     let insert = shown.insert_mode().then(|| ("INSERT".into(), STRONG));
-    let room = if room == 0 { ("line full".into(), YELLOW) } else { (format!("room for {room}"), PLAIN) };
+    let room = (format!("room for {room}"), if room == 0 { YELLOW } else { PLAIN });
     let over = (rows.start() < rows.end()).then(|| (format!("line in rows {} to {}", rows.start() + 1, rows.end() + 1), PLAIN));
     insert.into_iter().chain([room]).chain(over).collect()
 }
@@ -69,6 +69,8 @@ mod tests {
         screen.print_bytes(b"FIRST\r").unwrap();
         screen.print_bytes(&[b'A'; 85]).unwrap();
         assert_eq!((rows(&screen), said(&screen)), (1..=3, "room for 170, line in rows 2 to 4".into()));
+        screen.set_cursor(1, 0).unwrap();
+        assert_eq!(said(&screen), "room for 170, line in rows 2 to 4", "what is overwritten needs none");
         screen.set_cursor(2, 7).unwrap();
         screen.set_insert(true).unwrap();
         assert_eq!((rows(&screen), said(&screen)), (1..=3, "INSERT, room for 170, line in rows 2 to 4".into()));

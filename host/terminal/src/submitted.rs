@@ -54,7 +54,7 @@ pub fn page(canvas: &mut Canvas, notice: &[String], submitted: &[String], back: 
     let first = end.saturating_sub(room);
     all[first..end].iter().enumerate().for_each(|(at, row)| canvas.text(1 + at, 0, row, PLAIN));
     let (above, below) = (first, all.len() - end);
-    let more = if above + below > 0 { format!("{above} rows above, {below} below: PageUp, PageDown; ") } else { String::new() };
+    let more = if above + below > 0 { format!("rows above: {above}, below: {below} (PageUp, PageDown); ") } else { String::new() };
     canvas.text(canvas.size.rows - 1, 0, &format!("{more}any other key goes back"), STRONG);
     back
 }
@@ -113,7 +113,7 @@ mod tests {
         assert_eq!(paged(8, 0)[..4], all);
         assert_eq!(paged(8, 0)[7], "any other key goes back");
         assert_eq!(paged(4, 0)[1..3], ["             FREE, BED 2  FREE", "submitted 3:"]);
-        assert_eq!(paged(4, 2)[1..], ["submitted 1: 10 WARD 7", "submitted 2: 20 WARD 8: BED 1", "1 rows above, 2 below: PageUp…"]);
+        assert_eq!(paged(4, 2)[1..], ["submitted 1: 10 WARD 7", "submitted 2: 20 WARD 8: BED 1", "rows above: 1, below: 2 (Page…"]);
         assert_eq!(paged(4, 99)[1..3], ["sitting 5 is the first", "submitted 1: 10 WARD 7"]);
         let mut canvas = Canvas::new(Size { cols: 80, rows: 4 });
         assert_eq!(
@@ -121,6 +121,6 @@ mod tests {
             (0, 1),
             "it is not further back than there are rows"
         );
-        assert_eq!(canvas.line(3), "0 rows above, 1 below: PageUp, PageDown; any other key goes back");
+        assert_eq!(canvas.line(3), "rows above: 0, below: 1 (PageUp, PageDown); any other key goes back");
     }
 }

@@ -1,5 +1,6 @@
 //! The terminal, by crossterm: raw mode, the alternate screen, colours; and what is pressed there.
 use crate::canvas::{differing, Canvas, Size, Spot};
+use crate::front::Front;
 use crate::glyphs;
 use crate::keys::Key;
 use crossterm::cursor::{Hide, MoveTo, Show};
@@ -39,6 +40,8 @@ pub enum Input {
     /// The invigilator looks at the sitting before, and at the one after.
     Back,
     Forth,
+    /// A key that means nothing here.
+    Unknown,
     Resized(Size),
     /// The program is asked to end from outside.
     Ended,
@@ -54,12 +57,23 @@ pub enum Then {
 pub trait Program {
     /// Time passes, and what has come is taken.
     fn tick(&mut self) -> io::Result<()>;
-    fn canvas(&mut self, size: Size) -> Canvas;
+    /// What may cover what it shows.
+    fn front(&self) -> &Front;
+    /// What it shows in a terminal that is large enough.
+    fn paint(&mut self, canvas: &mut Canvas);
     /// Something is pressed, in a terminal of this size.
     fn input(&mut self, input: Input, size: Size) -> Then;
     /// Whether the bell rings now.
     fn rings(&mut self) -> bool {
         false
+    }
+
+    fn canvas(&mut self, size: Size) -> Canvas {
+        self.front().too_small(size).unwrap_or_else(|| {
+            let mut canvas = Canvas::new(size);
+            self.paint(&mut canvas);
+            canvas
+        })
     }
 }
 
@@ -90,10 +104,13 @@ pub fn size() -> io::Result<Size> {
 }
 
 const TICK: Duration = Duration::from_millis(20);
+/// What asks a program to end.
+const ENDING: [i32; 3] = [SIGTERM, SIGINT, SIGHUP];
 /// So many inputs are taken before the screen is shown again: a pasted text needs no painting for each key.
 const BATCH: usize = 256;
-/// So long a program whose terminal has hung up may take to leave by itself.
-const HUNG_UP: Duration = Duration::from_millis(500);
+/// So long a program that is asked to end may take to leave by itself, and then to restore the terminal.
+const LEAVING: Duration = Duration::from_millis(500);
+const RESTORING: Duration = Duration::from_millis(200);
 
 /// While it lives the terminal is ours; what it was before comes back in any case, a panic and a request to end included.
 struct Terminal {
@@ -111,10 +128,10 @@ impl Terminal {
             hook(why);
         }));
         let ended = Arc::new(AtomicBool::new(false));
-        for signal in [SIGTERM, SIGINT, SIGHUP] {
+        for signal in ENDING {
             flag::register(signal, ended.clone())?;
         }
-        end_without_terminal()?;
+        end_in_any_case()?;
         terminal::enable_raw_mode()?;
         let colours = has_colours(env::var("NO_COLOR").ok().as_deref(), env::var("TERM").ok().as_deref());
         let mut terminal = Self { out: BufWriter::new(io::stdout()), shown: None, colours, ended };
@@ -198,29 +215,31 @@ impl Drop for Terminal {
 }
 
 fn restore() {
-    // There is no one left to tell if this fails.
-    let _ = execute!(io::stdout(), ResetColor, PopKeyboardEnhancementFlags, LeaveAlternateScreen, Show);
+    // There is no one left to tell if this fails. The modes first: they need no room in the terminal.
     let _ = terminal::disable_raw_mode();
+    let _ = execute!(io::stdout(), ResetColor, PopKeyboardEnhancementFlags, LeaveAlternateScreen, Show);
 }
 
-/// A terminal that hangs up may still be there, and then the program leaves it as it was; one that is gone may hold the program in its wait for a key,
-/// from which it does not come back.
-fn end_without_terminal() -> io::Result<()> {
-    let mut hung_up = Signals::new([SIGHUP])?;
+/// A terminal that is gone may hold the program in its wait for a key, from which it does not come back, and one that takes nothing in its writing. Then it ends
+/// nevertheless, and restores what it can.
+fn end_in_any_case() -> io::Result<()> {
+    let mut asked = Signals::new(ENDING)?;
     thread::spawn(move || {
-        if hung_up.forever().next().is_some() {
-            sleep(HUNG_UP);
-            restore();
+        if asked.forever().next().is_some() {
+            sleep(LEAVING);
+            thread::spawn(restore);
+            sleep(RESTORING);
             process::exit(0);
         }
     });
     Ok(())
 }
 
-/// Whether there are any, by `NO_COLOR`, which counts if it is not empty, and by the name of the terminal: the old ones of DEC have none, nor those
-/// that say so.
+/// Whether there are any, by `NO_COLOR`, which counts if it is not empty, and by the name of the terminal: DEC's with a number have none, nor those that
+/// say so.
 fn has_colours(no_color: Option<&str>, term: Option<&str>) -> bool {
-    let none = |term: &str| term.is_empty() || term == "dumb" || term.starts_with("vt") || term.ends_with("-m") || term.ends_with("-mono");
+    let of_dec = |term: &str| term.strip_prefix("vt").is_some_and(|rest| rest.starts_with(|c: char| c.is_ascii_digit()));
+    let none = |term: &str| term.is_empty() || term == "dumb" || of_dec(term) || term.ends_with("-m") || term.ends_with("-mono");
     no_color.is_none_or(str::is_empty) && !term.is_none_or(none)
 }
 
@@ -256,7 +275,7 @@ fn pressed(KeyEvent { code, modifiers, .. }: KeyEvent) -> Vec<Input> {
         _ if modifiers.contains(KeyModifiers::CONTROL) => with_ctrl(code),
         _ => plain(code).map(Input::Key),
     };
-    escape.then_some(Input::Key(Key::Escape)).into_iter().chain(meant).collect()
+    escape.then_some(Input::Key(Key::Escape)).into_iter().chain([meant.unwrap_or(Input::Unknown)]).collect()
 }
 
 fn plain(code: KeyCode) -> Option<Key> {
@@ -307,6 +326,7 @@ fn with_ctrl(code: KeyCode) -> Option<Input> {
 #[cfg(test)]
 mod tests {
     use super::*;
+    use crate::help;
 
     #[test]
     fn keys_mean_what_host_readme_says() {
@@ -343,8 +363,8 @@ mod tests {
         }
         let alt = pressed(KeyEvent::new(KeyCode::Char('x'), KeyModifiers::ALT));
         assert_eq!(alt, [Input::Key(Key::Escape), Input::Key(Key::Char(b'x'))]);
-        assert_eq!(pressed(KeyEvent::new(KeyCode::F(11), none)), []);
-        assert_eq!(pressed(KeyEvent::new(KeyCode::Char('€'), none)), []);
+        assert_eq!(pressed(KeyEvent::new(KeyCode::F(11), none)), [Input::Unknown]);
+        assert_eq!(pressed(KeyEvent::new(KeyCode::Char('€'), none)), [Input::Unknown]);
     }
 
     #[test]
@@ -364,6 +384,61 @@ mod tests {
         }
     }
 
+    /// The keys that an entry of the page of keys names.
+    fn named(key: &str) -> Vec<String> {
+        match key {
+            "Arrows" => ["Left", "Right", "Up", "Down"].map(String::from).into(),
+            "F1 to F10" => (1..=10).map(|n| format!("F{n}")).collect(),
+            _ => {
+                let before = key.split('-').next().filter(|_| key.contains('-')).map_or(String::new(), |before| format!("{before}-"));
+                let names = key.split(", ").filter(|name| !name.is_empty());
+                names.map(|name| name.trim_start_matches(&before).trim_start_matches('-')).map(|name| format!("{before}{name}")).collect()
+            }
+        }
+    }
+
+    /// All keys of a keyboard that could mean something, by the names that the page of keys has for them.
+    fn keyboard() -> Vec<(String, KeyCode, KeyModifiers)> {
+        use KeyCode::*;
+        let codes = [Enter, Tab, Backspace, Delete, Insert, Esc, Left, Right, Up, Down, Home, End, PageUp, PageDown, BackTab, Null];
+        let names = [
+            "Enter",
+            "Tab",
+            "Backspace",
+            "Del",
+            "Ins",
+            "Esc",
+            "Left",
+            "Right",
+            "Up",
+            "Down",
+            "Home",
+            "End",
+            "PageUp",
+            "PageDown",
+            "?",
+            "?",
+        ];
+        let functions = (1..=12).map(|n| (format!("F{n}"), F(n)));
+        let plain = names.map(String::from).into_iter().zip(codes).chain(functions);
+        let letters = ('a'..='z').map(|c| (c.to_ascii_uppercase().to_string(), Char(c)));
+        let with_ctrl = plain.clone().chain(letters).map(|(name, code)| (format!("Ctrl-{name}"), code, KeyModifiers::CONTROL));
+        plain.map(|(name, code)| (name, code, KeyModifiers::NONE)).chain(with_ctrl).collect()
+    }
+
+    #[test]
+    fn the_page_of_keys_has_every_key_that_means_something() {
+        let page: Vec<_> = help::CANDIDATE.iter().chain(help::DEMO).flat_map(|entry| named(entry.key)).collect();
+        // The second names of some.
+        let aliases = ["Ctrl-Backspace", "Ctrl-H", "Ctrl-PageUp", "Ctrl-PageDown"];
+        for (name, code, modifiers) in keyboard() {
+            let means = pressed(KeyEvent::new(code, modifiers)) != [Input::Unknown];
+            assert_eq!(means, page.contains(&name) || aliases.contains(&name.as_str()), "{name}");
+        }
+        let known: Vec<_> = keyboard().into_iter().map(|(name, ..)| name).collect();
+        page.iter().filter(|name| *name != "Alt-letter").for_each(|name| assert!(known.contains(name), "{name}"));
+    }
+
     #[test]
     fn terminals_without_colours() {
         for (no_color, term, colours) in [
@@ -371,6 +446,7 @@ mod tests {
             (None, Some("linux"), true),
             (Some(""), Some("screen"), true),
             (Some("1"), Some("xterm"), false),
+            (None, Some("vte-256color"), true),
             (None, Some("vt220"), false),
             (None, Some("dumb"), false),
             (None, Some("linux-m"), false),

@@ -7,7 +7,7 @@ use line::{Follower, State, Word};
 use std::time::{Duration, Instant};
 
 /// What leads back while an earlier screen is looked at.
-pub const HINT_BACK: &str = "PageDown: back";
+pub const HINT_BACK: &str = "PageDown: newer";
 
 /// Looks at the mirror, unless an earlier sitting is chosen.
 #[derive(Default)]
@@ -48,16 +48,15 @@ impl View {
         }
     }
 
-    /// What stands under the screen, in groups: at the mirror its state and age, its calls and modes, and the sittings; at an earlier screen its
-    /// calls, the mirror's state and age, which go on, and the rest.
+    /// What stands under the screen, in groups: at the mirror its state and age, its calls and modes, and the sittings; at an earlier screen its calls
+    /// and modes, then what is true of the mirror now, which goes on.
     pub fn status(&self, follower: &Follower, now: Instant) -> [Vec<Part>; 3] {
-        let (mut state, calls, sittings) = (state(follower, now), calls(follower, now), sittings(follower, now));
         let modes = self.screen(follower).map_or(Vec::new(), |shown| self.words.of(shown));
         match self.earlier(follower) {
-            None => [state, [calls, modes].concat(), sittings],
+            None => [state(follower, now), [calls(follower, now), modes].concat(), sittings(follower, now)],
             Some(earlier) => {
-                state[0].0.insert_str(0, "now ");
-                [vec![(calls_of(earlier), PLAIN)], state, [of_sitting(follower), calls, sittings, modes].concat()]
+                let own = [vec![(format!("shows {}", calls_of(earlier)), PLAIN)], modes].concat();
+                [own, current(follower, now), sittings(follower, now)]
             }
         }
     }
@@ -101,10 +100,16 @@ fn calls(follower: &Follower, now: Instant) -> Vec<Part> {
     }
 }
 
-/// The mirror's sitting, where that is not the one that is looked at.
-fn of_sitting(follower: &Follower) -> Vec<Part> {
-    let current = follower.shown().filter(|shown| follower.heard().is_some_and(|heard| heard.sitting == shown.sitting));
-    current.map(|shown| (format!("sitting {}", shown.sitting), PLAIN)).into_iter().collect()
+/// What is true of the mirror while an earlier screen is looked at.
+fn current(follower: &Follower, now: Instant) -> Vec<Part> {
+    let of = match (follower.state(now), follower.shown(), follower.heard()) {
+        (State::Shows { .. }, Some(shown), Some(heard)) => {
+            format!("current: sitting {}, call {} of {}", shown.sitting, shown.serial, heard.serial)
+        }
+        _ => "current:".into(),
+    };
+    let state = state(follower, now).into_iter().map(|(said, attr)| (said.replace("the screen", "its screen"), attr));
+    [(of, PLAIN)].into_iter().chain(state).collect()
 }
 
 /// How far an earlier sitting is known, and how many calls of it were heard of.
@@ -174,7 +179,7 @@ mod tests {
         assert_eq!(text(&view, &follower), "9", "there is nothing after now");
         view.back(&follower);
         assert_eq!((text(&view, &follower), view.title(&follower)), ("5".into(), vec![("NOT CURRENT: sitting 5".into(), REVERSED)]));
-        let back = ["call 1 of 1", "now LEVEL, 0.0 s", "sitting 9  shows call 1 of 1  3 sittings so far  room for 254"];
+        let back = ["shows call 1 of 1  room for 254", "current: sitting 9, call 1 of 1  LEVEL, 0.0 s", "3 sittings so far"];
         assert_eq!(status(&view, &follower, now), back);
         view.back(&follower);
         assert_eq!(text(&view, &follower), "3");
@@ -222,8 +227,13 @@ mod tests {
         assert_eq!(told(&invigilator, 200), [part("BEHIND by 6", YELLOW), part("the screen of 0.2 s ago", YELLOW)]);
         let both = [part("SILENT for 7 s", RED), part("BEHIND by 6", YELLOW), part("the screen of 7.0 s ago", RED)];
         assert_eq!(told(&invigilator, 7_000), both);
+        let back = current(&invigilator.follower, now + Duration::from_millis(7_000));
+        let expected =
+            [part("current: sitting 5, call 3 of 9", PLAIN), both[0].clone(), both[1].clone(), part("its screen of 7.0 s ago", RED)];
+        assert_eq!(back, expected);
         candidates.step(&mut invigilator, &screen(6, 1), now);
         assert_eq!(told(&invigilator, 7_000)[..2], [part("SILENT for 7 s", RED), part("BEGUN: sitting 6", YELLOW)]);
+        assert_eq!(current(&invigilator.follower, now)[..2], [part("current:", PLAIN), part("BEGUN: sitting 6", YELLOW)]);
     }
 
     #[test]

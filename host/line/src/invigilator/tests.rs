@@ -98,7 +98,7 @@ impl Seat {
     /// What it says when these questions have come, wherever they were sent to.
     fn answer(&mut self, questions: &[(SocketAddr, Vec<u8>)], millis: u64) -> Vec<Vec<u8>> {
         let now = self.at(millis);
-        questions.iter().for_each(|(_, question)| self.candidate.receive(question));
+        questions.iter().for_each(|(_, question)| self.candidate.receive(question, now));
         self.candidate.due(&self.screen, now)
     }
 
@@ -149,7 +149,7 @@ fn what_does_not_open_changes_nothing() {
     assert_eq!(scene.come(&garbage, 2, 450), [Taken::Garbage; 4]);
     assert_eq!((scene.asks(450), scene.invigilator.candidate_at()), (vec![], Some(address(1))), "an address alone proves nothing");
     assert_eq!((scene.counts(), scene.invigilator.keys_kept()), ((1, 0, 8), 1));
-    assert_eq!(scene.said(6_000), "SILENT for 5 s; the screen of an unknown time");
+    assert_eq!(scene.said(6_000), "SILENT for 5 s, OLD; the screen of an unknown time");
 }
 
 #[test]
@@ -380,7 +380,7 @@ fn a_replay_does_not_end_the_silence() {
     scene.come(&second, 1, 10);
     for replayed in [&first, &second] {
         scene.come(replayed, 1, 5_000);
-        assert_eq!(scene.said(5_010), "SILENT for 5 s; the screen of an unknown time");
+        assert_eq!(scene.said(5_010), "SILENT for 5 s, OLD; the screen of an unknown time");
     }
     scene.come(&seat.press(5_020), 1, 5_020);
     assert_eq!(scene.said(5_020), "OLD; the screen of an unknown time");

@@ -186,7 +186,7 @@ impl<'a> Scene<'a> {
     }
 
     fn to_candidate(&mut self, datagram: &Datagram) {
-        self.seat.receive(datagram);
+        self.seat.receive(datagram, self.now);
         count(self.tally, "datagrams to candidates");
         let Some((question, when)) = self.seat.candidate.told() else { return };
         if let Some(pair) = question.shown {

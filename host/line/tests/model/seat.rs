@@ -25,8 +25,8 @@ impl Seat {
         Self { candidate: Candidate::new(shared, &screen, now), screen, address, made: 0, start: None, heard: Vec::new(), garbage: 0 }
     }
 
-    pub fn receive(&mut self, datagram: &Datagram) {
-        self.candidate.receive(&datagram.bytes);
+    pub fn receive(&mut self, datagram: &Datagram, now: Instant) {
+        self.candidate.receive(&datagram.bytes, now);
         match datagram.made {
             // A question that is another's, or of another time, is no garbage, but says nothing.
             Made::ByInvigilator(asked) if Some(asked.whom) != self.start => {}

@@ -39,8 +39,10 @@ fn each_state_has_its_colour_and_silence_rings_once() {
         wait_for_colour(&scene.invigilator, GREEN, "LEVEL, ");
         wait_for_colour(&scene.candidate, GREEN, "the invigilator shows call 5 of 5");
     }
-    scenes.iter().for_each(|scene| scene.between.both(Way::Cut));
+    // The candidate still comes, but answers nothing.
+    scenes.iter().for_each(|scene| scene.between.back(Way::Cut));
     scenes.iter().for_each(|scene| wait_for_colour(&scene.invigilator, YELLOW, "OLD"));
+    scenes.iter().for_each(|scene| scene.between.both(Way::Cut));
     for silences in 1..3 {
         for (at, scene) in scenes.iter().enumerate() {
             wait_for_colour(&scene.invigilator, RED, "SILENT for ");
@@ -90,10 +92,13 @@ fn without_colours_the_words_suffice() {
             assert!(!is_coloured(&shown), "{shown:?}");
             assert!(shown.contains("\u{1b}[7m1LIST"), "the key strip is reversed: {shown:?}");
         }
-        scene.between.both(Way::Cut);
+        scene.between.back(Way::Cut);
     }
     for scene in &scenes {
         scene.invigilator.wait_for("OLD  the screen of ");
+        scene.between.both(Way::Cut);
+    }
+    for scene in &scenes {
         scene.invigilator.wait_for("SILENT for ");
         scene.candidate.wait_for("NO INVIGILATOR HEARD for ");
         assert!(!is_coloured(&scene.invigilator.coloured()));
