@@ -36,47 +36,78 @@ pub struct Arguments {
     pub keys: Option<String>,
 }
 
-/// What the words ask for, or a sentence about the first that cannot be taken.
+/// What the words ask for, or a sentence about the first that cannot be taken. `./run` judges words in the same way before there is a program, but for
+/// their values.
 pub fn read(words: impl IntoIterator<Item = String>) -> Result<Asked, String> {
     let mut words = words.into_iter().peekable();
     let program = words.next_if(|word| !word.starts_with('-'));
     match program.as_deref() {
+        None | Some("candidate" | "invigilator") => {}
         Some("help") => return Ok(Asked::Help),
         Some("key") => return key_to_make(words),
-        _ => {}
+        Some(word) => return Err(format!("there is no program '{word}'; ./run --help lists the words")),
     }
-    let mut arguments = Arguments { place: Place::Both, key: None, width: None, faults: None, seed: None, sitting: None, keys: None };
-    let mut address = None;
+    let mut given = Vec::new();
     while let Some(word) = words.next() {
-        let mut value = || words.next().ok_or_else(|| format!("{word} needs a value after it; ./run --help lists the words"));
-        match (word.as_str(), program.as_deref()) {
-            ("--help" | "-h", _) => return Ok(Asked::Help),
-            ("--version", _) => return Ok(Asked::Version),
-            ("--to", Some("candidate")) => address = Some(Place::To(address_of(&value()?, 1)?)),
-            ("--listen", Some("invigilator")) => address = Some(Place::Listen(address_of(&value()?, 0)?)),
-            ("--key", Some("candidate" | "invigilator")) => arguments.key = Some(value()?.into()),
-            ("--keys", Some("candidate" | "invigilator")) => arguments.keys = Some(value()?),
-            ("--width", None | Some("candidate")) => arguments.width = Some(width_of(&value()?)?),
-            ("--seed", None | Some("candidate")) => arguments.seed = Some(number_of(&word, &value()?, u64::MAX)?),
-            ("--sitting", Some("candidate")) => arguments.sitting = Some(number_of(&word, &value()?, u32::MAX.into())? as u32),
-            ("--loss" | "--repeat" | "--reorder", None | Some("candidate")) => {
-                let percent = number_of(&word, &value()?, 100)? as u32;
-                set_fault(arguments.faults.get_or_insert_default(), &word, percent);
-            }
-            _ => return Err(format!("'{word}' is not understood here; ./run --help lists the words")),
+        match word.as_str() {
+            "--help" | "-h" => return Ok(Asked::Help),
+            "--version" => return Ok(Asked::Version),
+            known if words_of(program.as_deref()).contains(&known) => match words.next() {
+                Some(value) => given.push((word, value)),
+                None => return Err(format!("{word} needs a value after it; ./run --help lists the words")),
+            },
+            _ => return Err(not_understood(&word)),
         }
     }
-    arguments.place = match (program.as_deref(), address) {
-        (None, _) => Place::Both,
-        (Some("candidate" | "invigilator"), Some(place)) => place,
-        (Some("candidate"), None) => return Err("--to is missing: ./run candidate --to HOST:PORT --key FILE".into()),
-        (Some("invigilator"), None) => return Err("--listen is missing: ./run invigilator --listen HOST:PORT --key FILE".into()),
-        (Some(word), _) => return Err(format!("there is no program '{word}'; ./run --help lists the words")),
-    };
-    if arguments.place != Place::Both && arguments.key.is_none() {
-        return Err("--key is missing: ./run key FILE makes one, the other end needs a copy of that file, and --key FILE names it".into());
+    let missing = |needed: &&(&str, &str)| given.iter().all(|(word, _)| word != needed.0);
+    if let Some((word, how)) = needed_of(program.as_deref()).iter().find(missing) {
+        return Err(format!("{word} is missing: {how}"));
     }
-    Ok(Asked::Run(arguments))
+    valued(&given).map(Asked::Run)
+}
+
+fn not_understood(word: &str) -> String {
+    format!("'{word}' is not understood here; ./run --help lists the words")
+}
+
+/// The words that take one after them, by the program that is started.
+fn words_of(program: Option<&str>) -> &'static [&'static str] {
+    match program {
+        None => &["--width", "--loss", "--repeat", "--reorder", "--seed"],
+        Some("candidate") => &["--to", "--key", "--keys", "--width", "--loss", "--repeat", "--reorder", "--seed", "--sitting"],
+        Some(_) => &["--listen", "--key", "--keys"],
+    }
+}
+
+/// Those of them that it needs, and how they are used.
+fn needed_of(program: Option<&str>) -> &'static [(&'static str, &'static str)] {
+    const KEY: (&str, &str) = ("--key", "./run key FILE makes one, the other end needs a copy of that file, and --key FILE names it");
+    match program {
+        None => &[],
+        Some("candidate") => &[("--to", "./run candidate --to HOST:PORT --key FILE"), KEY],
+        Some(_) => &[("--listen", "./run invigilator --listen HOST:PORT --key FILE"), KEY],
+    }
+}
+
+/// What the words mean with their values.
+fn valued(given: &[(String, String)]) -> Result<Arguments, String> {
+    let mut arguments = Arguments { place: Place::Both, key: None, width: None, faults: None, seed: None, sitting: None, keys: None };
+    for (word, value) in given {
+        match word.as_str() {
+            "--to" => arguments.place = Place::To(address_of(value, 1)?),
+            "--listen" => arguments.place = Place::Listen(address_of(value, 0)?),
+            "--key" => arguments.key = Some(value.into()),
+            "--keys" => arguments.keys = Some(value.into()),
+            "--width" => arguments.width = Some(width_of(value)?),
+            "--seed" => arguments.seed = Some(number_of(word, value, u64::MAX)?),
+            "--sitting" => arguments.sitting = Some(number_of(word, value, u32::MAX.into())? as u32),
+            _ => {
+                let percent = number_of(word, value, 100)? as u32;
+                set_fault(arguments.faults.get_or_insert_default(), word, percent);
+            }
+        }
+    }
+    Ok(arguments)
 }
 
 fn set_fault(faults: &mut Faults, word: &str, percent: u32) {
@@ -89,11 +120,13 @@ fn set_fault(faults: &mut Faults, word: &str, percent: u32) {
 
 /// The one word after `key`.
 fn key_to_make(mut words: impl Iterator<Item = String>) -> Result<Asked, String> {
+    let help = |word: &Option<String>| word.as_deref().is_some_and(|word| ["--help", "-h"].contains(&word));
     match (words.next(), words.next()) {
-        (Some(word), _) if ["--help", "-h"].contains(&word.as_str()) => Ok(Asked::Help),
-        (Some(file), None) if !file.starts_with('-') => Ok(Asked::Key(file.into())),
-        (None, _) => Err("a file for the key is missing: ./run key FILE".into()),
-        (Some(word), None) | (_, Some(word)) => Err(format!("'{word}' is not understood here; ./run key FILE makes a key in a new file")),
+        (first, second) if help(&first) || help(&second) => Ok(Asked::Help),
+        (Some(word), _) if word.starts_with('-') => Err(not_understood(&word)),
+        (Some(file), None) if !file.is_empty() => Ok(Asked::Key(file.into())),
+        (Some(_), Some(word)) => Err(not_understood(&word)),
+        _ => Err("a file for the key is missing: ./run key FILE".into()),
     }
 }
 

@@ -8,7 +8,8 @@ use terminal::keys::{self, Key};
 use terminal::{candidate, halves, invigilator, key_file, played, sitting};
 
 fn main() {
-    let asked = arguments::read(std::env::args().skip(1)).unwrap_or_else(|sentence| end(2, &sentence));
+    let words = std::env::args_os().skip(1).map(|word| word.into_string().map_err(|word| format!("{word:?} is no text in UTF-8")));
+    let asked = words.collect::<Result<Vec<_>, _>>().and_then(arguments::read).unwrap_or_else(|sentence| end(2, &sentence));
     let done = match asked {
         Asked::Help => {
             print!("{}", arguments::HELP);

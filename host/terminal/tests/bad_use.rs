@@ -80,7 +80,7 @@ fn without_a_key_nothing_starts() {
 fn sittings() {
     let range = "--sitting takes a number from 0 to 4294967295, not";
     for bad in ["x", "-1", "1.5", "4294967296"] {
-        refused(&format!("candidate --to 127.0.0.1:4000 --sitting {bad}"), 2, &format!("{range} '{bad}'"));
+        refused(&format!("candidate --to 127.0.0.1:4000 --key k --sitting {bad}"), 2, &format!("{range} '{bad}'"));
     }
     let folder = Folder::new("sittings");
     let key = with_key(&folder);
@@ -99,12 +99,12 @@ fn sittings() {
 fn addresses() {
     refused("candidate", 2, "--to is missing");
     refused("invigilator", 2, "--listen is missing");
-    refused("candidate --to 127.0.0.1", 2, "'127.0.0.1' is no address");
-    refused("candidate --to 127.0.0.1:65536", 2, "the port of '127.0.0.1:65536' is not a number from 1 to 65535");
-    refused("candidate --to 127.0.0.1:0", 2, "is not a number from 1 to 65535");
-    refused("invigilator --listen 127.0.0.1:70000", 2, "is not a number from 0 to 65535");
-    refused("invigilator --listen 127.0.0.1:x", 2, "is not a number from 0 to 65535");
-    refused("invigilator --listen 256.0.0.1:4000", 2, "the host of '256.0.0.1:4000' was not found");
+    refused("candidate --to 127.0.0.1 --key k", 2, "'127.0.0.1' is no address");
+    refused("candidate --to 127.0.0.1:65536 --key k", 2, "the port of '127.0.0.1:65536' is not a number from 1 to 65535");
+    refused("candidate --to 127.0.0.1:0 --key k", 2, "is not a number from 1 to 65535");
+    refused("invigilator --listen 127.0.0.1:70000 --key k", 2, "is not a number from 0 to 65535");
+    refused("invigilator --listen 127.0.0.1:x --key k", 2, "is not a number from 0 to 65535");
+    refused("invigilator --listen 256.0.0.1:4000 --key k", 2, "the host of '256.0.0.1:4000' was not found");
     let folder = Folder::new("addresses");
     let key = with_key(&folder);
     refused(&format!("invigilator --listen 192.0.2.1:4000 --keys /dev/null {key}"), 1, "is no address of this machine");
@@ -125,74 +125,104 @@ fn keys_and_terminals() {
     refused(&format!("candidate --to 127.0.0.1:4000 --keys {} {key}", file.display()), 1, "there is no key <Entr>");
 }
 
+/// Words with spaces in them, and empty ones, are written with `_` and `""`.
+fn words_of(list: &str) -> Vec<String> {
+    list.split_whitespace().map(|word| word.replace('_', " ").replace("\"\"", "")).collect()
+}
+
+const BAD: [&str; 30] = [
+    "candiate",
+    "\"\"",
+    "candidate",
+    "invigilator",
+    "key",
+    "key \"\"",
+    "key a b",
+    "key --force",
+    "key -- a",
+    "--",
+    "-",
+    "-x",
+    "--lost 3",
+    "--loss",
+    "--loss=3",
+    "--to a",
+    "--key a",
+    "--keys a",
+    "--sitting 3",
+    "--width_--loss 3",
+    "--loss 3 more",
+    "candidate more",
+    "candidate --to",
+    "candidate --to 127.0.0.1:9",
+    "candidate --key a",
+    "candidate --listen a",
+    "invigilator --listen 127.0.0.1:9",
+    "invigilator --to a",
+    "invigilator --listen a --key b --sitting 3",
+    "candiate --hlep",
+];
+const ANSWERED: [&str; 12] = [
+    "--help",
+    "-h",
+    "help",
+    "help me",
+    "--version",
+    "candidate --help",
+    "invigilator -h",
+    "key -h",
+    "key a --help",
+    "--loss x --help",
+    "candidate --to x --version",
+    "invigilator --listen bad --help",
+];
+const UNDERSTOOD: [&str; 6] = [
+    "",
+    "--width 40 --loss 1 --repeat 2 --reorder 3 --seed 4",
+    "key a",
+    "--loss --help",
+    "candidate --to a --key b --keys c --sitting 5 --width 80",
+    "invigilator --listen a --key b --keys c",
+];
+
 /// `./run` with these words, where no archive is: it must answer before it looks for one, or say that there is none.
-fn run(words: &str, empty: &Folder) -> Output {
+fn run(words: &[String], empty: &Folder) -> Output {
     let mut command = Command::new(concat!(env!("CARGO_MANIFEST_DIR"), "/../../run"));
-    command.args(words.split_whitespace()).env("FUTONROBIN_ARCHIVE", &empty.0).stdin(Stdio::null()).output().unwrap()
+    command.args(words).env("FUTONROBIN_ARCHIVE", &empty.0).stdin(Stdio::null()).output().unwrap()
+}
+
+fn text(bytes: &[u8]) -> String {
+    String::from_utf8(bytes.to_vec()).unwrap()
 }
 
 #[test]
 fn run_says_what_the_program_would_say_before_there_is_one() {
     let empty = Folder::new("no-archive");
-    let text = |bytes: Vec<u8>| String::from_utf8(bytes).unwrap();
-    for words in [
-        "candiate",
-        "candidate",
-        "invigilator",
-        "key",
-        "key a b",
-        "key --force",
-        "--lost 3",
-        "--loss",
-        "--to 127.0.0.1:9",
-        "--key a",
-        "--keys a",
-        "--sitting 3",
-        "-x",
-        "--loss 3 more",
-        "candidate more",
-        "candidate --to",
-        "candidate --to 127.0.0.1:9",
-        "candidate --key a",
-        "candidate --listen 127.0.0.1:9",
-        "invigilator --listen 127.0.0.1:9",
-        "invigilator --to 127.0.0.1:9",
-        "invigilator --listen 127.0.0.1:9 --key b --sitting 3",
-        "invigilator --listen 127.0.0.1:9 --key b --width 40",
-        "invigilator --seed 1",
-    ] {
-        let (early, program) = (run(words, &empty), screens(words));
-        let told = text(early.stderr);
-        let sentence =
-            told.strip_prefix("run: ").and_then(|told| told.split_once("; ./run --help")).unwrap_or_else(|| panic!("{words}: {told}")).0;
-        assert_eq!((early.status.code(), program.status.code()), (Some(2), Some(2)), "{words}: {told}");
-        assert!(text(program.stderr).starts_with(&format!("futonrobin: {sentence}")), "{words}: {told}");
+    for list in BAD.into_iter().chain(ANSWERED) {
+        let words = words_of(list);
+        let program = Command::new(env!("CARGO_BIN_EXE_screens")).args(&words).stdin(Stdio::null()).output().unwrap();
+        let early = run(&words, &empty);
+        let told = text(&early.stderr).replace("run: ", "futonrobin: ");
+        assert_eq!((told, text(&early.stdout)), (text(&program.stderr), text(&program.stdout)), "{list}");
+        assert_eq!(
+            (early.status.code(), program.status.code()),
+            (Some(if BAD.contains(&list) { 2 } else { 0 }), early.status.code()),
+            "{list}"
+        );
     }
-    for words in [
-        "--help",
-        "-h",
-        "help",
-        "--version",
-        "candidate --help",
-        "invigilator -h",
-        "key -h",
-        "--loss 3 --help",
-        "candidate --to 127.0.0.1:9 --version",
-    ] {
-        let (early, program) = (run(words, &empty), screens(words));
-        assert!(early.status.success() && early.stderr.is_empty() && !early.stdout.is_empty(), "{words}");
-        assert_eq!(text(early.stdout), text(program.stdout), "{words}");
+    for list in UNDERSTOOD {
+        let early = run(&words_of(list), &empty);
+        assert_eq!(early.status.code(), Some(1), "{list}");
+        assert!(text(&early.stderr).starts_with("run: there is no "), "{list}");
     }
-    let understood = ["", "--width 40 --loss 1 --repeat 2 --reorder 3 --seed 4", "key a"];
-    let with_all = [
-        "candidate --to 127.0.0.1:9 --key b --keys c --sitting 5 --width 80 --seed 1",
-        "invigilator --listen 127.0.0.1:9 --key b --keys c",
-    ];
-    for words in understood.into_iter().chain(with_all) {
-        let early = run(words, &empty);
-        assert_eq!(early.status.code(), Some(1), "{words}");
-        assert!(text(early.stderr).starts_with("run: there is no "), "{words}");
-    }
+}
+
+#[test]
+fn a_word_that_is_no_text() {
+    use std::os::unix::ffi::OsStrExt;
+    let word = std::ffi::OsStr::from_bytes(b"k\xff");
+    let done = Command::new(env!("CARGO_BIN_EXE_screens")).args(["key".as_ref(), word]).output().unwrap();
+    assert_eq!((done.status.code(), text(&done.stderr).as_str()), (Some(2), "futonrobin: \"k\\xFF\" is no text in UTF-8\n"));
 }
 
 #[test]

@@ -37,6 +37,9 @@ fn delayed(name: &str, delay: impl Fn(&Between), long: Duration) {
         assert!(!look.is_level() && look.age >= Some(long), "{}", look.shown.lines.join("\n"));
         look.says("OLD") && look.length >= first.length + 5
     });
+    // The candidate hears of it as late, and is not told that nobody is there.
+    let told = scene.candidate.wait_for("the invigilator shows call ");
+    assert!(number(&told, "as of ").is_some_and(|seconds| seconds >= long.as_secs_f64()), "{}", told.lines.join("\n"));
     // What was on its way still comes late, beside what now comes at once.
     scene.between.both(Way::Pass);
     let again = scene.watch("LEVEL again", SLOWLY, Look::is_level_with_all);
@@ -65,7 +68,7 @@ fn what_is_replayed_is_never_level_while_the_candidate_types_nor_after_its_end()
     });
     // The candidate takes no old question for a new one.
     scene.between.back(Way::Replay);
-    let asked = |shown: &Shown| number(shown, "heard ").is_some_and(|seconds| seconds >= 3.0);
+    let asked = |shown: &Shown| number(shown, "as of ").is_some_and(|seconds| seconds >= 3.0);
     watch_until(&scene, asked, old);
     let (before, _) = scene.between.replayed();
     scene.candidate.leave();
@@ -99,7 +102,7 @@ fn an_invigilator_started_anew_is_level_with_nothing_replayed_but_with_the_candi
     });
     // All the time its questions reach the candidate, and the answers are lost; it has heard nothing that the candidate said since.
     scene.candidate.wait("an old answer", |shown| {
-        shown.has("the last one showed call 8 of 8") && number(shown, "NO INVIGILATOR HEARD for ").is_some_and(|seconds| seconds >= 5.0)
+        shown.has("the invigilator shows call 8 of 8") && number(shown, "as of ").is_some_and(|seconds| seconds >= 5.0)
     });
     scene.candidate.leave();
 
@@ -216,7 +219,7 @@ fn what_another_pair_of_programs_says_under_its_key_is_garbage() {
     });
     scene.types(3);
     scene.watch("LEVEL with what is typed then", NEVER, |look| look.is_level_with_all() && look.says("1 sitting so far"));
-    scene.candidate.wait_for("the invigilator shows call 8 of 8  heard 0.");
+    scene.candidate.wait_for("the invigilator shows call 8 of 8  as of 0.");
 }
 
 /// IPv6 carries so much whole everywhere, and Ethernet so much of IPv4.

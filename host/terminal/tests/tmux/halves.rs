@@ -1,5 +1,6 @@
 //! The candidate's screen and the invigilator's mirror in one terminal.
 use crate::pane::{Pane, Shown, DEADLINE};
+use crate::sizes::SIZES;
 use std::process::Command;
 use std::thread::sleep;
 use std::time::{Duration, Instant};
@@ -139,12 +140,11 @@ fn a_restart_is_followed() {
     // The screen before can be looked at, and the mirror goes on meanwhile.
     pane.press("PPage");
     pane.wait("the screen before", |shown| {
-        invigilator(shown)[0] == "BEFORE" && ["NOT CURRENT: sitting 1", "call 6 of 6", "PageDown: back"].iter().all(|text| shown.has(text))
+        invigilator(shown)[0] == "BEFORE"
+            && ["NOT CURRENT: sitting 1", "shows call 6 of 6", "PageDown: newer"].iter().all(|text| shown.has(text))
     });
     pane.write(" ALL");
-    pane.wait("the mirror goes on", |shown| {
-        invigilator(shown)[0] == "BEFORE" && shown.has("now LEVEL") && shown.has("sitting 2  shows call 9 of 9")
-    });
+    pane.wait("the mirror goes on", |shown| invigilator(shown)[0] == "BEFORE" && shown.has("current: sitting 2, call 9 of 9  LEVEL, "));
     pane.press("PPage");
     pane.press("NPage");
     wait_for_both(&pane, 0, "AFTER ALL");
@@ -190,9 +190,9 @@ fn faults_that_are_changed_while_it_runs() {
     wait_for_both(&pane, 0, "bad line, good keys; bad line");
 }
 
-/// What `stty -g` prints in a shell.
+/// A sum of what `stty -g` prints in a shell, which is longer than a row.
 fn modes(shell: &Pane, when: &str) -> String {
-    shell.write(&format!("echo {when}-$(stty -g)\n"));
+    shell.write(&format!("echo {when}-$(stty -g | cksum)\n"));
     // Not the line that was typed.
     let printed = |shown: &Shown| {
         let after = |line: &String| line.split_once(&format!("{when}-")).map(|(_, modes)| modes.to_string());
@@ -202,12 +202,13 @@ fn modes(shell: &Pane, when: &str) -> String {
 }
 
 /// A shell, and the program started from it, with its process number.
-fn from_a_shell(name: &str) -> (Pane, String, String) {
-    let shell = Pane::start(name, COLS, ROWS, "PS1='ready> ' sh");
+fn from_a_shell(name: &str, (cols, rows): (usize, usize)) -> (Pane, String, String) {
+    let name = &format!("{name}-{cols}");
+    let shell = Pane::start(name, cols, rows, "PS1='ready> ' sh");
     shell.wait_for("ready>");
     let before = modes(&shell, "before");
     let file = format!("{}/pid-{}-{name}", env!("CARGO_TARGET_TMPDIR"), std::process::id());
-    shell.write(&format!("sh -c 'echo $$ > {file}; exec {} {GOOD_LINE}'\n", env!("CARGO_BIN_EXE_screens")));
+    shell.write(&format!("sh -c 'echo $$ > {file}; exec {} --seed 1'\n", env!("CARGO_BIN_EXE_screens")));
     shell.wait_for("1LIST");
     let process = std::fs::read_to_string(&file).unwrap().trim().to_string();
     std::fs::remove_file(file).unwrap();
@@ -218,33 +219,39 @@ fn signal(signal: &str, process: &str) -> bool {
     Command::new("kill").args([signal, process]).output().unwrap().status.success()
 }
 
+/// What ends the program in a terminal of each size, and leaves the terminal as it was.
+fn restored(name: &str, end: impl Fn(&Pane, &str)) {
+    for size in SIZES {
+        let (shell, before, process) = from_a_shell(name, size);
+        end(&shell, &process);
+        shell.wait("the shell again", |shown| shown.has("before") && !shown.has("1LIST"));
+        assert_eq!(modes(&shell, "after"), before);
+    }
+}
+
 #[test]
 fn leaving_restores_the_terminal() {
-    let (shell, before, _) = from_a_shell("leaving");
-    shell.press("C-q");
-    shell.wait("the shell again", |shown| shown.has("before") && !shown.has("1LIST"));
-    assert_eq!(modes(&shell, "after"), before);
+    restored("leaving", |shell, _| shell.press("C-q"));
 }
 
 #[test]
 fn a_request_to_end_restores_the_terminal() {
-    let (shell, before, process) = from_a_shell("asked");
-    assert!(signal("-TERM", &process));
-    shell.wait("the shell again", |shown| shown.has("before") && !shown.has("1LIST"));
-    assert_eq!(modes(&shell, "after"), before);
+    restored("asked", |shell, process| {
+        // What was typed is no reason to ask then.
+        shell.write("TYPED");
+        shell.wait_for("TYPED");
+        assert!(signal("-TERM", process));
+    });
 }
 
 #[test]
 fn a_terminal_that_hangs_up_is_restored_if_it_is_still_there() {
-    let (shell, before, process) = from_a_shell("hung-up");
-    assert!(signal("-HUP", &process));
-    shell.wait("the shell again", |shown| shown.has("before") && !shown.has("1LIST"));
-    assert_eq!(modes(&shell, "after"), before);
+    restored("hung-up", |_, process| assert!(signal("-HUP", process)));
 }
 
 #[test]
 fn a_terminal_that_is_gone_ends_the_program() {
-    let (shell, _, process) = from_a_shell("gone");
+    let (shell, _, process) = from_a_shell("gone", SIZES[0]);
     drop(shell);
     let begun = Instant::now();
     while signal("-0", &process) {

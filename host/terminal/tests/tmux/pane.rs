@@ -86,7 +86,7 @@ impl Pane {
     /// Leaves a screen on which something was typed.
     pub fn leave(&self) {
         self.press("C-q");
-        self.wait_for("Ctrl-Q again leaves");
+        self.wait_for("Ctrl-Q again: yes, else: no");
         self.press("C-q");
         self.wait_for_end();
     }

@@ -143,8 +143,7 @@ fn a_page_of_keys_at_both_ends_and_in_the_demo() {
             (&demo, &[&CANDIDATE_KEYS[..], &["Ctrl-T", "Ctrl-X", "! Ctrl-N", "PageUp"]].concat()),
             (&invigilator, &["PageUp", "PageDown", "Up, Down", "Ctrl-Q"]),
         ] {
-            let before = pane.wait_for("Ctrl-G: help");
-            assert!(before.lines[0].ends_with("Ctrl-G: help"), "the key to the page is always in sight");
+            pane.wait_for("Ctrl-G: help");
             pane.press("C-g");
             let shown = pane.wait_for("Any key goes back.");
             keys.iter().for_each(|key| assert!(shown.has(key), "{key} is not in\n{}", shown.lines.join("\n")));
@@ -169,15 +168,15 @@ fn what_was_typed_is_not_lost_without_a_question() {
             pane.write("KEPT");
             pane.wait("what is typed", |shown| starts(shown, "KEPT"));
             pane.press("C-w");
-            pane.wait("a question", |shown| shown.has("Clear the screen? Ctrl-W again") && starts(shown, "KEPT"));
+            pane.wait("a question", |shown| shown.has("columns? Ctrl-W again: yes, else: no") && starts(shown, "KEPT"));
             pane.write("!");
-            pane.wait("no question, and the key", |shown| !shown.has("Clear the screen?") && starts(shown, "KEPT!"));
+            pane.wait("no question, and the key", |shown| !shown.has("Ctrl-W again") && starts(shown, "KEPT!"));
             pane.press("C-q");
-            pane.wait("a question", |shown| shown.has("Ctrl-Q again leaves") && starts(shown, "KEPT!"));
+            pane.wait("a question", |shown| shown.has("What was typed is lost. Ctrl-Q again: yes, else: no") && starts(shown, "KEPT!"));
             pane.press("C-w");
-            pane.wait("the other question", |shown| shown.has("Clear the screen?") && !shown.has("Ctrl-Q again"));
+            pane.wait("the other question", |shown| shown.has("Ctrl-W again: yes, else: no") && !shown.has("Ctrl-Q again"));
             pane.press("C-w");
-            pane.wait("a clear screen", |shown| !shown.has("KEPT") && !shown.has("Clear the screen?"));
+            pane.wait("a clear screen", |shown| !shown.has("KEPT") && !shown.has("Ctrl-W again"));
             pane.leave();
         }
         invigilator.press("x C-q");
@@ -190,26 +189,36 @@ fn submitted_lines_are_wrapped_and_not_cut() {
     let line: String = (0..255).map(|n| char::from(b'A' + (n * 7 + n / 26) as u8 % 26)).collect();
     for (cols, rows) in SIZES {
         let (candidate, _invigilator) = two(&format!("submitted-{cols}"), (cols, rows), "");
-        candidate.write("SHORT");
-        candidate.press("Enter");
-        candidate.wait_for("submitted 1: SHORT");
-        candidate.write(&line);
-        candidate.press("Enter");
-        candidate.wait_for("submitted 2: ");
-        candidate.press("C-p");
-        let page = candidate.wait_for("2 LINES SUBMITTED");
-        let whole = |shown: &Shown| {
-            let from = shown.lines.iter().position(|line| line.starts_with("submitted 2: "))?;
-            let rows = shown.lines[from..].iter().map(|line| line.get(13..).unwrap_or("").trim());
-            Some(rows.take_while(|row| !row.is_empty()).collect::<String>())
-        };
-        assert_eq!(whole(&page).as_deref(), Some(line.as_str()), "{}", page.lines.join("\n"));
-        candidate.press("C-p");
-        let shown = candidate.wait("the screen again", |shown| !shown.has("2 LINES SUBMITTED"));
-        match rows {
-            24 | 30 => assert!(shown.has("submitted 2: Ctrl-P shows it"), "{}", shown.lines.join("\n")),
-            _ => assert_eq!(whole(&shown).as_deref(), Some(line.as_str()), "{}", shown.lines.join("\n")),
+        let demo = Pane::screens(&format!("submitted-demo-{cols}"), cols, rows, GOOD_LINE);
+        demo.wait_for("1LIST");
+        for pane in [&candidate, &demo] {
+            submit(pane, &line, rows < 31);
         }
+    }
+}
+
+/// A short line and this one are submitted; where there are few rows the second is only named under the screen, and on the page it is whole.
+fn submit(pane: &Pane, line: &str, few_rows: bool) {
+    pane.write("SHORT");
+    pane.press("Enter");
+    pane.wait_for("submitted 1: SHORT");
+    pane.write(line);
+    pane.press("Enter");
+    pane.wait_for("submitted 2: ");
+    pane.press("C-p");
+    let page = pane.wait_for("2 LINES SUBMITTED");
+    let whole = |shown: &Shown| {
+        let from = shown.lines.iter().position(|line| line.starts_with("submitted 2: "))?;
+        let rows = shown.lines[from..].iter().map(|line| line.get(13..).unwrap_or("").trim());
+        Some(rows.take_while(|row| !row.is_empty()).collect::<String>())
+    };
+    assert_eq!(whole(&page).as_deref(), Some(line), "{}", page.lines.join("\n"));
+    pane.press("C-p");
+    let shown = pane.wait("the screen again", |shown| !shown.has("2 LINES SUBMITTED"));
+    if few_rows {
+        assert!(shown.has("submitted 2: Ctrl-P shows it"), "{}", shown.lines.join("\n"));
+    } else {
+        assert_eq!(whole(&shown).as_deref(), Some(line), "{}", shown.lines.join("\n"));
     }
 }
 
@@ -231,4 +240,25 @@ fn an_invigilator_moves_the_window_by_hand() {
     invigilator.press("Home");
     invigilator.wait("the cursor's row", |shown| first_row(shown) == "ROW 5" && !shown.has("Home: to the cursor"));
     invigilator.wait_for_cursor(19, 4);
+}
+
+#[test]
+fn the_demo_has_colours_and_a_bell_too() {
+    let panes: Vec<_> = SIZES.iter().map(|(cols, rows)| Pane::screens(&format!("demo-bell-{cols}"), *cols, *rows, GOOD_LINE)).collect();
+    let written: Vec<_> = panes.iter().map(Pane::record).collect();
+    let bells = |at: usize| fs::read(&written[at]).map_or(0, |bytes| bytes.iter().filter(|&&byte| byte == 7).count());
+    for pane in &panes {
+        wait_for_colour(pane, GREEN, "the invigilator shows call 0 of 0");
+        if !pane.shown().has("INVIGILATOR") {
+            pane.press("C-t");
+        }
+        wait_for_colour(pane, GREEN, "LEVEL, ");
+        pane.press("C-x");
+    }
+    for (at, pane) in panes.iter().enumerate() {
+        wait_for_colour(pane, RED, "line CUT");
+        wait_for_colour(pane, RED, "SILENT for ");
+        pane.wait("seven seconds", |shown| number(shown, "SILENT for ").is_some_and(|seconds| seconds >= 7.0));
+        assert_eq!(bells(at), 1);
+    }
 }

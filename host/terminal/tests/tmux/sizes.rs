@@ -209,7 +209,7 @@ fn resizing_at_any_moment_keeps_everything() {
             // While its size changes the terminal still has keys to hand over.
             person.types("BEFORE");
             person.presses("Enter", Key::Enter);
-            person.pane.wait_for("submitted");
+            person.pane.wait_for(&format!("submitted {}: ", step + 1));
         }
         [&candidate, &invigilator, &demo].iter().for_each(|pane| pane.resize(cols, rows));
         if cols < 80 || rows < 18 {
@@ -217,8 +217,15 @@ fn resizing_at_any_moment_keeps_everything() {
             for pane in [&candidate, &invigilator, &demo] {
                 pane.wait(&told, |shown| shown.lines.concat().replace(' ', "").contains(&told.replace(' ', "")));
             }
-            // Nobody types there.
-            [&candidate, &demo].iter().for_each(|pane| pane.write("NOT TAKEN"));
+            // Nobody types there; that the keys were read is known by the question after them.
+            for pane in [&candidate, &demo] {
+                let asked = |shown: &Shown| shown.lines.concat().replace(' ', "").contains("Ctrl-Qagain");
+                pane.write("NOT TAKEN");
+                pane.press("C-q");
+                pane.wait("the question", asked);
+                pane.press("Left");
+                pane.wait("no question", |shown| !asked(shown));
+            }
             [&candidate, &invigilator, &demo].iter().for_each(|pane| pane.resize(USUAL.0, USUAL.1));
         }
         for (pane, desk) in [(&candidate, &person.desk), (&invigilator, &person.desk), (&demo, &at_demo.desk)] {
@@ -227,4 +234,42 @@ fn resizing_at_any_moment_keeps_everything() {
     }
     candidate.press("C-p");
     candidate.wait_for("9 LINES SUBMITTED");
+}
+
+#[test]
+fn what_covers_a_screen_or_moved_its_window_stays_when_the_size_changes() {
+    let (candidate, invigilator) = two("covered", USUAL, "");
+    let mut person = Person { pane: &candidate, desk: Desk::new(80, 1) };
+    person.fills_the_screen();
+    // Too small, larger, and as it was.
+    let around = |pane: &Pane, what: &str| {
+        for (cols, rows) in [(60, 10), (170, 40), (80, 18), USUAL] {
+            pane.resize(cols, rows);
+            pane.wait("the new size", |shown| shown.has("too small") == (cols < 80) && (cols < 80 || shown.has(what)));
+        }
+    };
+    for (key, what) in
+        [("C-g", "Any key goes back."), ("C-p", "any other key goes back"), ("C-w", "Ctrl-W again: yes"), ("C-q", "Ctrl-Q again: yes")]
+    {
+        candidate.press(key);
+        candidate.wait_for(what);
+        around(&candidate, what);
+        // Under a page no key is typed.
+        if what.contains("goes back") {
+            candidate.press("Left");
+        } else {
+            person.presses("Left", Key::Left);
+        }
+        candidate.wait("the screen again", |shown| !shown.has(what));
+        Watched { pane: &candidate, left: 0 }.wait_for_all_of(&person.desk.screen);
+    }
+    invigilator.wait_for("▲ 5 rows above");
+    invigilator.press("Up");
+    invigilator.wait_for("▲ 4 rows above");
+    for rows in [17, 20, 24] {
+        invigilator.resize(80, rows);
+    }
+    invigilator.wait("the window where it was", |shown| shown.has("▲ 4 rows above") && shown.has("Home: to the cursor"));
+    invigilator.press("Home");
+    Watched { pane: &invigilator, left: 0 }.wait_for_all_of(&person.desk.screen);
 }

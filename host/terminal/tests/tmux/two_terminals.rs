@@ -61,11 +61,10 @@ fn over_udp() {
 
     invigilator.press("PPage");
     let past = invigilator.wait("the earlier screen", |shown| first_row(shown) == "40 WARD 9, BED 3" && shown.has("NOT CURRENT: sitting"));
-    assert!(past.has("call 16 of 16") && past.has("PageDown: back") && past.has("now "));
+    assert!(past.has("shows call 16 of 16") && past.has("PageDown: newer") && past.has("current: sitting "));
     second.write("!");
-    invigilator.wait("the mirror follows meanwhile", |shown| {
-        first_row(shown) == "40 WARD 9, BED 3" && shown.has("now LEVEL") && shown.has("shows call 16 of 16")
-    });
+    invigilator
+        .wait("the mirror follows meanwhile", |shown| first_row(shown) == "40 WARD 9, BED 3" && shown.has(", call 16 of 16  LEVEL, "));
     invigilator.press("NPage");
     invigilator.wait("the current screen", |shown| first_row(shown) == "AFTER A RESTART!" && !shown.has("NOT CURRENT"));
     second.leave();
