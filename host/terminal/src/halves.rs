@@ -260,7 +260,12 @@ fn next_percentage(now: u32) -> u32 {
 #[cfg(test)]
 mod tests {
     use super::*;
+    use crate::front::NEEDED;
+    use crate::glyphs::glyph;
+    use crate::keys::NAMED;
+    use crate::panel::{AROUND, SCREEN, STATUS};
     use crate::samples::{screen, Candidates};
+    use oorandom::Rand32;
     use std::time::Duration;
 
     const BOTH: Size = Size { cols: 81, rows: 30 };
@@ -359,6 +364,74 @@ mod tests {
         halves.input(width, BOTH);
         assert_eq!((halves.desk.screen.width(), halves.half(BOTH)), (80, None), "and is shown a half at a time");
         assert_eq!([Input::Leave; 2].map(|input| halves.input(input, BOTH)), [Then::GoOn, Then::Leave]);
+    }
+
+    /// The rows of a half that begins in this column, compared with the screen's cells.
+    fn check_half(canvas: &Canvas, left: usize, screen: &impl Shown, below: usize) {
+        let (width, editable) = (screen.width() as usize, screen.editable_rows() as usize);
+        let text = |row: usize| canvas.row(row)[left..].iter().map(|spot| spot.ch).collect::<String>();
+        let mark = |row: usize, arrow| -> usize {
+            let rest = text(row).split('│').next().unwrap().split_once(arrow).map(|(_, rest)| rest.trim_start().to_string());
+            rest.map_or(0, |rest| rest.split(' ').next().unwrap().parse().unwrap())
+        };
+        let height = below - 4 - (25 - editable);
+        let (above, hidden) = (mark(0, '▲'), mark(below - 3, '▼'));
+        assert_eq!(above + height + hidden, editable, "{}", text(0));
+        for at in 0..height {
+            let cells: String = (0..width as u32).map(|col| glyph(screen.cell((above + at) as u32, col).unwrap().ch)).collect();
+            assert_eq!(text(1 + at).chars().take(width).collect::<String>(), cells, "row {at} under {above}");
+        }
+    }
+
+    /// What is in sight of both ends, and the cursor of the one that has the terminal's.
+    fn check(halves: &mut Halves, size: Size) {
+        let canvas = halves.canvas(size);
+        if !NEEDED.fits(size) || halves.front.page().is_some() {
+            return;
+        }
+        let below = 1 + (size.rows - LINE - AROUND).min(SCREEN) + STATUS;
+        let (half, mirror) = (halves.half(size), halves.view.screen(halves.follower()));
+        let on_mirror = half.is_none() && halves.mirror_in_sight;
+        if !on_mirror {
+            check_half(&canvas, 0, &halves.desk.screen, below);
+        }
+        if let (Some(left), Some(mirror)) = (half.map(|half| half + 1).or(on_mirror.then_some(0)), mirror) {
+            check_half(&canvas, left, mirror, below);
+        }
+        let (row, col) = if on_mirror { mirror.map_or((0, 0), |mirror| mirror.cursor()) } else { halves.desk.screen.cursor() };
+        let (at, place) = canvas.cursor.expect("the cursor is in sight");
+        assert!(place == col as usize && at <= 1 + row as usize && at >= 1, "{at}, {place} for {row}, {col}");
+    }
+
+    fn any_input(random: &mut Rand32) -> Input {
+        use Input::*;
+        const OTHERS: [Input; 12] = [Leave, Help, Submitted, Other, Loss, Repeat, Reorder, Cut, Restart, Back, Forth, Unknown];
+        match random.rand_range(0..9) {
+            0 => OTHERS[random.rand_range(0..OTHERS.len() as u32) as usize],
+            1 | 2 => Key(NAMED[random.rand_range(0..NAMED.len() as u32) as usize].1),
+            3 => Key(crate::keys::Key::Down),
+            _ => Key(crate::keys::Key::Char(random.rand_range(33..256) as u8)),
+        }
+    }
+
+    #[test]
+    fn whatever_is_pressed_in_whatever_size_what_is_in_sight_is_right() {
+        let mut random = Rand32::new(24);
+        for run in 0..60 {
+            let mut now = Instant::now();
+            let mut halves = Halves::new(if run % 2 == 0 { 40 } else { 80 }, FAULTS, run, now);
+            let mut size = USUAL;
+            for _ in 0..150 {
+                if random.rand_range(0..6) == 0 {
+                    size = Size { cols: random.rand_range(70..180) as usize, rows: random.rand_range(0..42) as usize };
+                }
+                halves.input(any_input(&mut random), size);
+                now += Duration::from_millis(100);
+                let arriving = halves.pass(now);
+                halves.arrive(arriving);
+                check(&mut halves, size);
+            }
+        }
     }
 
     #[test]
