@@ -17,12 +17,15 @@ pub struct Seat {
     pub start: Option<Start>,
     /// Of the last four starts the last question. The start to which the latest of its datagrams came is first.
     pub heard: Vec<Asked>,
+    /// When the last one came that was taken into these.
+    pub came: Option<Instant>,
     pub garbage: u64,
 }
 
 impl Seat {
     pub fn new(shared: &SharedKey, screen: Screen, address: SocketAddr, now: Instant) -> Self {
-        Self { candidate: Candidate::new(shared, &screen, now), screen, address, made: 0, start: None, heard: Vec::new(), garbage: 0 }
+        let candidate = Candidate::new(shared, &screen, now);
+        Self { candidate, screen, address, made: 0, start: None, heard: Vec::new(), came: None, garbage: 0 }
     }
 
     pub fn receive(&mut self, datagram: &Datagram, now: Instant) {
@@ -30,19 +33,22 @@ impl Seat {
         match datagram.made {
             // A question that is another's, or of another time, is no garbage, but says nothing.
             Made::ByInvigilator(asked) if Some(asked.whom) != self.start => {}
-            Made::ByInvigilator(asked) => self.hear(asked),
+            Made::ByInvigilator(asked) => self.hear(asked, now),
             _ => self.garbage += 1,
         }
+        assert_eq!(self.candidate.quiet(now), self.came.map(|came| now - came), "nothing but a new question ends a silence");
         assert_eq!(self.candidate.garbage, self.garbage, "what no invigilator has made is garbage, and nothing else");
     }
 
-    pub fn hear(&mut self, asked: Asked) {
+    pub fn hear(&mut self, asked: Asked, now: Instant) {
         if self.heard.iter().any(|before| before.start == asked.start && before.counter >= asked.counter) {
             return;
         }
         self.heard.retain(|before| before.start != asked.start);
-        self.heard.insert(self.heard.partition_point(|before| before.after > asked.after), asked);
+        let at = self.heard.partition_point(|before| before.after > asked.after);
+        self.heard.insert(at, asked);
         self.heard.truncate(4);
+        self.came = if at < 4 { Some(now) } else { self.came };
     }
 
     /// What it sends now, with what is true of it.
