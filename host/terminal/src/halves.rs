@@ -242,6 +242,8 @@ impl Program for Halves {
                 let arriving = self.press(key);
                 self.arrive(arriving);
             }
+            // Where both halves are in sight there is no other.
+            Some(Input::Other) if self.half(size).is_some() => {}
             Some(input) => self.turn(input),
             None => {}
         }
@@ -349,8 +351,11 @@ mod tests {
         assert_eq!(shown(&mut halves, USUAL)[1], "WARD 7!", "a key leads to the screen on which it is typed");
         assert!(shown(&mut halves, USUAL)[0].starts_with("CANDIDATE"));
         halves.input(Input::Other, USUAL);
-        // In a wider one both are in sight, whichever was before.
-        let both = shown(&mut halves, Size { cols: 161, rows: 24 });
+        // In a wider one both are in sight, whichever was before, and the key does nothing.
+        let wider = Size { cols: 161, rows: 24 };
+        halves.input(Input::Other, wider);
+        assert!(shown(&mut halves, USUAL)[0].starts_with("INVIGILATOR"));
+        let both = shown(&mut halves, wider);
         assert!(both[0].starts_with("CANDIDATE") && both[0].contains("INVIGILATOR") && both[1].matches("WARD 7").count() == 2);
     }
 

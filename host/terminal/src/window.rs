@@ -4,8 +4,7 @@
 #[derive(Default)]
 pub struct Window {
     top: usize,
-    /// The sitting in which it was moved by hand.
-    by_hand: Option<u32>,
+    by_hand: bool,
     /// When it was last asked: how many rows were hidden, and of which sitting.
     hidden: usize,
     sitting: u32,
@@ -14,9 +13,12 @@ pub struct Window {
 impl Window {
     /// The first of so many rows in sight, of all that there are, with the cursor in this one.
     pub fn top(&mut self, sitting: u32, cursor: usize, height: usize, of: usize) -> usize {
-        (self.sitting, self.hidden) = (sitting, of.saturating_sub(height));
-        self.by_hand = self.by_hand.filter(|of| *of == sitting && self.hidden > 0);
-        if self.by_hand.is_none() {
+        if self.sitting != sitting {
+            *self = Self { sitting, ..Self::default() };
+        }
+        self.hidden = of.saturating_sub(height);
+        self.by_hand &= self.hidden > 0;
+        if !self.by_hand {
             self.top = self.top.clamp((cursor + 1).saturating_sub(height), cursor);
         }
         self.top = self.top.min(self.hidden);
@@ -26,23 +28,23 @@ impl Window {
     /// By hand, a row up or down, if there is one.
     pub fn up(&mut self) {
         if self.top > 0 {
-            (self.top, self.by_hand) = (self.top - 1, Some(self.sitting));
+            (self.top, self.by_hand) = (self.top - 1, true);
         }
     }
 
     pub fn down(&mut self) {
         if self.top < self.hidden {
-            (self.top, self.by_hand) = (self.top + 1, Some(self.sitting));
+            (self.top, self.by_hand) = (self.top + 1, true);
         }
     }
 
     /// The cursor is followed again.
     pub fn follow(&mut self) {
-        self.by_hand = None;
+        self.by_hand = false;
     }
 
     pub fn is_moved_by_hand(&self) -> bool {
-        self.by_hand.is_some()
+        self.by_hand
     }
 }
 
@@ -84,6 +86,8 @@ mod tests {
         assert_eq!(window.top(1, 23, 19, 24), 0);
         window.follow();
         assert_eq!((window.top(1, 23, 19, 24), window.is_moved_by_hand()), (5, false));
+        window.down();
+        assert!(!window.is_moved_by_hand(), "it is at the end");
         window.up();
         window.top(1, 23, 25, 25);
         assert!(!window.is_moved_by_hand(), "all rows are in sight");
@@ -96,8 +100,7 @@ mod tests {
         let mut window = Window::default();
         window.top(1, 23, 19, 24);
         window.up();
-        assert_eq!((window.top(1, 23, 19, 24), window.top(2, 0, 19, 24), window.is_moved_by_hand()), (4, 0, false));
-        window.top(1, 23, 19, 24);
-        assert!(!window.is_moved_by_hand());
+        assert_eq!((window.top(1, 23, 19, 24), window.top(2, 10, 19, 24), window.is_moved_by_hand()), (4, 0, false));
+        assert_eq!((window.top(1, 10, 19, 24), window.is_moved_by_hand()), (0, false));
     }
 }
