@@ -273,6 +273,9 @@ mod tests {
         assert_eq!(shown(&[11, 15]), ["LEVEL", "0.2 s  call 62  INSERT"], "no row is left for a group of its own");
         assert_eq!(shown(&[12, 9]), ["LEVEL  0.2 s", "call 62  INSERT"]);
         assert_eq!(shown(&[3]), ["LEVEL  0.2 s  call 62  INSERT"]);
+        let three = [groups[0].clone(), vec![part("call 62")], vec![part("INSERT")]];
+        let rows = flowed(&three, &[11, 15, 15]);
+        assert_eq!(rows[1..], [vec![part("0.2 s"), part("call 62")], vec![part("INSERT")]], "each group behind it has a row left");
     }
 
     #[test]

@@ -180,6 +180,19 @@ mod tests {
     }
 
     #[test]
+    fn nothing_runs_into_the_marks() {
+        let (table, mut screen, mut canvas) = (KeyTable::standard(), filled(80, true), Canvas::new(Size { cols: 80, rows: 24 }));
+        screen.set_cursor(12, 0).unwrap();
+        let (long, mut window) = ((0..9).map(|n| (format!("{n}23456789"), STRONG)).collect::<Vec<_>>(), Window::default());
+        window.top(1, 20, 19, 24);
+        let panel = Panel { title: long.clone(), hint: "HINT", shown: Some(&screen), status: vec![long], table: &table };
+        panel.paint(&mut canvas, Area { left: 0, cols: 80, rows: 24 }, &mut window);
+        assert_eq!(canvas.line(0), "023456789  123456789  223456789  323456789  423456789  …    ▲ 2 rows above  HINT");
+        assert_eq!(canvas.line(21), "023456789  123456789  223456789  323456789  423456789  523456789  ▼ 3 rows below");
+        assert_eq!(canvas.line(22), "623456789  723456789  823456789");
+    }
+
+    #[test]
     fn a_screen_that_is_narrower_than_its_place_has_an_edge() {
         let (table, screen) = (KeyTable::standard(), filled(40, true));
         for (cols, edge) in [(40, ' '), (41, '│'), (80, '│')] {
