@@ -262,6 +262,7 @@ fn next_percentage(now: u32) -> u32 {
 #[cfg(test)]
 mod tests {
     use super::*;
+    use crate::canvas::REVERSED;
     use crate::front::NEEDED;
     use crate::glyphs::glyph;
     use crate::keys::NAMED;
@@ -355,6 +356,8 @@ mod tests {
         let wider = Size { cols: 161, rows: 24 };
         halves.input(Input::Other, wider);
         assert!(shown(&mut halves, USUAL)[0].starts_with("INVIGILATOR"));
+        let attrs: Vec<_> = halves.canvas(wider).row(1)[81..].iter().map(|spot| spot.attr).collect();
+        assert_eq!((attrs[6], attrs[7], attrs[8]), (PLAIN, REVERSED, PLAIN), "the mirror's cursor, which is not the terminal's");
         let both = shown(&mut halves, wider);
         assert!(both[0].starts_with("CANDIDATE") && both[0].contains("INVIGILATOR") && both[1].matches("WARD 7").count() == 2);
     }
