@@ -206,7 +206,7 @@ fn submit(pane: &Pane, line: &str, few_rows: bool) {
     pane.press("Enter");
     pane.wait_for("submitted 2: ");
     pane.press("C-p");
-    let page = pane.wait_for("2 LINES SUBMITTED");
+    let page = pane.wait("all of the page", |shown| shown.has("2 LINES SUBMITTED") && shown.has("any other key goes back"));
     let whole = |shown: &Shown| {
         let from = shown.lines.iter().position(|line| line.starts_with("submitted 2: "))?;
         let rows = shown.lines[from..].iter().map(|line| line.get(13..).unwrap_or("").trim());
@@ -214,12 +214,10 @@ fn submit(pane: &Pane, line: &str, few_rows: bool) {
     };
     assert_eq!(whole(&page).as_deref(), Some(line), "{}", page.lines.join("\n"));
     pane.press("C-p");
-    let shown = pane.wait("the screen again", |shown| !shown.has("2 LINES SUBMITTED"));
-    if few_rows {
-        assert!(shown.has("submitted 2: Ctrl-P shows it"), "{}", shown.lines.join("\n"));
-    } else {
-        assert_eq!(whole(&shown).as_deref(), Some(line), "{}", shown.lines.join("\n"));
-    }
+    let named = |shown: &Shown| shown.has("submitted 2: Ctrl-P shows it");
+    pane.wait("the screen again", |shown| {
+        !shown.has("any other key goes back") && if few_rows { named(shown) } else { whole(shown).as_deref() == Some(line) }
+    });
 }
 
 #[test]

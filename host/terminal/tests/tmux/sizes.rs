@@ -155,8 +155,8 @@ fn larger_terminals_show_every_row_at_once() {
             person.fills_the_screen();
             for pane in [&candidate, &invigilator] {
                 assert_eq!(Watched { pane, left: 0 }.wait_for_all_of(&person.desk.screen).rows.len(), 24);
-                let edge = |line: &String| line.chars().nth(width as usize);
-                assert!(pane.shown().lines[1..26].iter().all(|line| edge(line) == Some('│')), "the screen has an edge");
+                let edge = |line: &String| line.chars().nth(width as usize) == Some('│');
+                pane.wait("an edge", |shown| shown.lines[1..26].iter().all(edge));
             }
         }
     }
@@ -187,8 +187,8 @@ fn a_screen_of_40_columns_has_an_edge_in_the_usual_terminal() {
     let mut person = Person { pane: &candidate, desk: Desk::new(40, 1) };
     person.types("WARD 7");
     for pane in [&candidate, &invigilator] {
-        let shown = pane.wait("what is typed", |shown| shown.lines[1].starts_with("WARD 7"));
-        assert!(shown.lines[1..21].iter().all(|line| line.chars().nth(40) == Some('│')), "{}", shown.lines.join("\n"));
+        let edge = |line: &String| line.chars().nth(40) == Some('│');
+        pane.wait("what is typed, and an edge", |shown| shown.lines[1].starts_with("WARD 7") && shown.lines[1..21].iter().all(edge));
     }
 }
 
