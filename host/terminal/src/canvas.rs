@@ -67,7 +67,7 @@ impl Canvas {
         }
     }
 
-    /// In the columns up to this one. A text that is cut there shows that it goes on: else the first digits of a number would read as another number.
+    /// In these columns. A text that is cut there shows that it goes on: else the first digits of a number would read as another number.
     pub fn text_to(&mut self, row: usize, cols: Range<usize>, text: &str, attr: u8) {
         for (at, ch) in fitting(text, cols.len()).chars().enumerate() {
             self.put(row, cols.start + at, Spot::new(ch, attr));

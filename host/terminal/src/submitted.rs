@@ -1,4 +1,4 @@
-//! The submitted lines under a screen, and on a page of their own. None is ever cut: what has no room is only named.
+//! The submitted lines under a screen, and on a page of their own. None is ever cut: what has no room is named, or left out, and stands on the page.
 use crate::canvas::{broken, Canvas, Part, PLAIN, STRONG};
 
 /// The rows of a submitted line, in so many columns.
