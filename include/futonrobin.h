@@ -40,6 +40,17 @@ extern "C" {
  */
 #define FUTONROBIN_MIRROR_RECORD 11u
 
+/*
+ * Byte FUTONROBIN_BITS_AT of a screen record has two bits, which no call answers. It may be 0 to 3, so the bit is to be tested and not
+ * the byte: rec[FUTONROBIN_BITS_AT] & FUTONROBIN_INSERT_BIT.
+ *
+ * FUTONROBIN_CR_BIT is set by a print whose last byte is 13, left by a print of no bytes, and cleared by every other print and every other
+ * changing call that is accepted.
+ */
+#define FUTONROBIN_BITS_AT 6u
+#define FUTONROBIN_INSERT_BIT 1u /* typing inserts */
+#define FUTONROBIN_CR_BIT 2u     /* a print ended with 13: a 10 that is printed next belongs to it */
+
 /* ---- Answers */
 
 /* Refusal k answers FUTONROBIN_REFUSED + k. An accepted call answers less than FUTONROBIN_REFUSED + 1. */
@@ -48,10 +59,11 @@ extern "C" {
 /* The refusals, in the order in which they are looked for. */
 enum {
     FUTONROBIN_WRONG_LENGTH = 1,
-    FUTONROBIN_BROKEN_LAYOUT = 2, /* of a screen, mirror or key table */
-    FUTONROBIN_OUT_OF_RANGE = 3,  /* a number */
-    FUTONROBIN_SPENT_SERIAL = 4,  /* a changing call found serial 4,294,967,295 */
-    FUTONROBIN_BROKEN_REPORT = 5, /* its length included */
+    FUTONROBIN_BROKEN_LAYOUT = 2,   /* of a screen, mirror or key table */
+    FUTONROBIN_OUT_OF_RANGE = 3,    /* a number */
+    FUTONROBIN_SPLIT_LINE_END = 13, /* a checked print begins with 10 while FUTONROBIN_CR_BIT is set */
+    FUTONROBIN_SPENT_SERIAL = 4,    /* a changing call found serial 4,294,967,295 */
+    FUTONROBIN_BROKEN_REPORT = 5,   /* its length included */
     FUTONROBIN_WIDTH_WITHOUT_ROWS = 6
 };
 
@@ -76,8 +88,18 @@ uint32_t screen_new(uint8_t *rec, size_t rec_len, uint32_t width, uint32_t sitti
  * its text.
  */
 
-/* Prints at the cursor: 13, 10, and 13 followed by 10 are newlines, 27 and 32 to 255 are written, others are ignored. */
+/*
+ * Prints at the cursor: 13, 10, and 13 followed by 10 are newlines, 27 and 32 to 255 are written, others are ignored. A 13 and its 10 are one
+ * newline in one call, and two in two calls.
+ */
 uint32_t screen_print_bytes(uint8_t *rec, size_t rec_len, const uint8_t *bytes, size_t bytes_len);
+
+/*
+ * Prints as screen_print_bytes does, but refuses bytes that begin with 10 while FUTONROBIN_CR_BIT is set. So a text that comes in pieces, with no
+ * other changing call between them, looks as if it were printed at once, if none is refused. In the place of a 10 that is refused a byte is
+ * printed that is ignored, as 0, and then the rest of the piece.
+ */
+uint32_t screen_print_checked(uint8_t *rec, size_t rec_len, const uint8_t *bytes, size_t bytes_len);
 
 /* A character 0 to 255; those below 32 but 27 type nothing. */
 uint32_t screen_type_char(uint8_t *rec, size_t rec_len, uint32_t ch);

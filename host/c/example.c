@@ -1,6 +1,6 @@
 /*
- * A C host in short: a line is typed and changed on a screen of 40 columns, and a mirror follows by reports, one of which comes late. Then
- * the terminal restarts, and the mirror follows that too.
+ * A C host in short: a heading is printed in pieces and a line typed and changed on a screen of 40 columns, and a mirror follows by reports,
+ * one of which comes late. Then the terminal restarts, and the mirror follows that too.
  *
  *   cc -std=c99 -Wall -Wextra -pedantic -Werror -Iinclude host/c/example.c target/staticlib/libapi.a -o example
  *
@@ -65,19 +65,39 @@ static void show(const char *whose, const uint8_t *rec)
 {
     uint8_t text[FUTONROBIN_SNAPSHOT_MIN];
     uint32_t length = accepted("screen_snapshot", screen_snapshot(rec, FUTONROBIN_SCREEN_LEN, text, sizeof text));
-    printf("-- the %s shows\n%.*s\n--\n", whose, (int)length, (const char *)text);
+    const char *insert = (rec[FUTONROBIN_BITS_AT] & FUTONROBIN_INSERT_BIT) != 0 ? ", with insert on" : "";
+    const char *cr = (rec[FUTONROBIN_BITS_AT] & FUTONROBIN_CR_BIT) != 0 ? ", after 13" : "";
+    printf("-- the %s shows%s%s\n%.*s\n--\n", whose, insert, cr, (int)length, (const char *)text);
+}
+
+/* A piece of a text that may be cut anywhere, between a 13 and its 10 too. */
+static void print_piece(const char *piece)
+{
+    static const uint8_t ignored[] = {0};
+    const uint8_t *bytes = (const uint8_t *)piece;
+    size_t length = strlen(piece);
+
+    uint32_t answer = screen_print_checked(screen, sizeof screen, bytes, length);
+    if (futonrobin_refusal(answer) == FUTONROBIN_SPLIT_LINE_END) {
+        printf("split: answer %" PRIu32 ", refusal %d\n", answer, futonrobin_refusal(answer));
+        /* The 10 belongs to the 13 that the piece before ended with: in its place a byte is printed that is ignored, and then the rest. */
+        changed("ignored", screen_print_checked(screen, sizeof screen, ignored, sizeof ignored), ARRIVES);
+        answer = screen_print_checked(screen, sizeof screen, bytes + 1, length - 1);
+    }
+    changed("print", answer, ARRIVES);
 }
 
 static void first_sitting(void)
 {
-    const char *heading = "Ward 3, Monday\r\n";
     uint8_t line[FUTONROBIN_LINE_MIN];
 
     /* The mirror is new with the width and the sitting of the screen. */
     accepted("screen_new", screen_new(screen, sizeof screen, 40, 1));
     accepted("mirror_new", mirror_new(mirror, sizeof mirror, 40, 1));
 
-    changed("heading", screen_print_bytes(screen, sizeof screen, (const uint8_t *)heading, strlen(heading)), ARRIVES);
+    print_piece("Ward 3, Monday\r");
+    show("screen", screen);
+    print_piece("\n");
     for (const char *c = "BED7"; *c != '\0'; c++) {
         changed("type", screen_type_char(screen, sizeof screen, (uint8_t)*c), ARRIVES);
     }
@@ -91,7 +111,10 @@ static void first_sitting(void)
 
     uint32_t length = changed("enter", screen_take_logical_line(screen, sizeof screen, line, sizeof line), ARRIVES);
     printf("the line is \"%.*s\"\n", (int)length, (const char *)line);
+    /* The answer to it comes in pieces too. Insert is on, whatever the bit beside it says. */
+    print_piece("Ok\r");
     show("screen", screen);
+    print_piece("\n");
     show("mirror", mirror + FUTONROBIN_MIRROR_RECORD);
 }
 

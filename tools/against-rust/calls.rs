@@ -1,4 +1,4 @@
-//! The 24 changing calls: made on the Rust screen, and written for antt.
+//! The 25 changing calls: made on the Rust screen, and written for antt.
 
 use crate::screen::Screen;
 use std::fmt::Write;
@@ -6,6 +6,7 @@ use std::fmt::Write;
 #[derive(Clone, Debug)]
 pub enum Call {
     PrintBytes(Vec<u8>),
+    PrintChecked(Vec<u8>),
     TypeChar(u8),
     Backspace,
     DeleteChar,
@@ -33,10 +34,10 @@ pub enum Call {
 use Call::*;
 
 impl Call {
-    /// Makes the call, and answers the text that it hands out.
+    /// Makes the call, and answers the text that it hands out. A checked print is the Rust's print.
     pub fn make(&self, screen: &mut Screen) -> Vec<u8> {
         match self {
-            PrintBytes(bytes) => screen.print_bytes(bytes),
+            PrintBytes(bytes) | PrintChecked(bytes) => screen.print_bytes(bytes),
             TypeChar(ch) => screen.type_char(*ch),
             Backspace => screen.backspace(),
             DeleteChar => screen.delete_char(),
@@ -68,6 +69,7 @@ impl Call {
     pub fn antt(&self) -> String {
         match self {
             PrintBytes(bytes) => format!("PrintBytes ({})", packed(bytes)),
+            PrintChecked(bytes) => format!("PrintChecked ({})", packed(bytes)),
             TypeChar(ch) => format!("TypeChar {ch}"),
             TakeLogicalLine => "TakeLogicalLine line".to_string(),
             SetWidth(width) => format!("SetWidth {width}"),

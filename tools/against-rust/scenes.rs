@@ -17,6 +17,7 @@ pub struct List {
     length: usize,
     fixed_width: Option<usize>,
     screen: Screen,
+    ended_in_cr: bool,
     chance: Chance,
 }
 
@@ -31,6 +32,7 @@ impl List {
             sitting,
             serial: 0,
             touched: 0,
+            ended_in_cr: false,
         };
         let mut list = List {
             first_width,
@@ -40,6 +42,7 @@ impl List {
             length,
             fixed_width,
             screen,
+            ended_in_cr: false,
             chance,
         };
         while list.calls.len() < length {
@@ -56,18 +59,20 @@ impl List {
         let before = rows_of(&self.screen);
         let submitted = call.make(&mut self.screen);
         let after = rows_of(&self.screen);
+        self.ended_in_cr = ended_in_cr_after(&call, self.ended_in_cr);
         self.calls.push(call);
         let stamp = Stamp {
             sitting: self.sitting,
             serial: self.calls.len(),
             touched: touched(&before, &after),
+            ended_in_cr: self.ended_in_cr,
         };
         self.sums
             .push(seen(&self.screen, &after, &stamp, &submitted));
     }
 
     fn scene(&mut self) {
-        match self.chance.below(28) {
+        match self.chance.below(30) {
             0..=3 => self.any_call(),
             4..=6 => self.key(),
             7 | 8 => self.corner(),
@@ -81,6 +86,7 @@ impl List {
             22 => self.blank_rows_joined(),
             23 => self.recoloured_line(),
             24 | 25 => self.tabs(),
+            26 | 27 => self.parted_line_ends(),
             _ => self.words(),
         }
     }
@@ -106,17 +112,25 @@ impl List {
         self.call(SetCursor(row, col));
     }
 
-    fn print_letters(&mut self, length: usize) {
-        let text = self.chance.letters(length);
-        self.call(PrintBytes(text));
+    /// Checked or not, by chance. No call of a list is refused, so a 10 whose 13 the print before has ended with is not checked.
+    fn print(&mut self, text: Vec<u8>) {
+        let splits = self.ended_in_cr && text.first() == Some(&10);
+        let checked = self.chance.coin() && !splits;
+        let print = if checked { PrintChecked } else { PrintBytes };
+        self.call(print(text));
     }
 
-    /// 13 and 10 in every arrangement, in one print and parted.
+    fn print_letters(&mut self, length: usize) {
+        let text = self.chance.letters(length);
+        self.print(text);
+    }
+
+    /// 13 and 10 in every arrangement, in one print and parted, by prints of no bytes too.
     fn print_newlines(&mut self) {
-        for _ in 0..1 + self.chance.below(3) {
-            let length = 1 + self.chance.below(5);
+        for _ in 0..1 + self.chance.below(4) {
+            let length = self.chance.below(6);
             let text = self.chance.some_of(&[13, 10, 13, 10, 32, 65, 7], length);
-            self.call(PrintBytes(text));
+            self.print(text);
         }
     }
 
@@ -168,7 +182,8 @@ impl List {
         let call = match chance.below(18) {
             0..=4 => {
                 let length = chance.one_of(&[0, 1, 3, 12, 60]);
-                PrintBytes(chance.characters(length))
+                let text = chance.characters(length);
+                return self.print(text);
             }
             5 => Clear,
             6 => Home,
@@ -192,7 +207,7 @@ impl List {
         match self.chance.below(3) {
             0 => {
                 let text = self.chance.characters(2);
-                self.call(PrintBytes(text));
+                self.print(text);
             }
             1 => self.one_call_of(&[MoveLeft, MoveRight, MoveUp, MoveDown, WordLeft, WordRight]),
             _ => self.keys(2),
@@ -258,7 +273,7 @@ impl List {
         let text = self
             .chance
             .some_of(&[32, 133, 160, 133, 160, 255, 27, 65], length);
-        self.call(PrintBytes(text));
+        self.print(text);
     }
 
     /// Every row holds something, so that a line which grows drops rows after it, and at the bottom rows before it.
@@ -269,7 +284,7 @@ impl List {
         for row in 1..=last {
             text.extend([13, 10, 65 + row as u8]);
         }
-        self.call(PrintBytes(text));
+        self.print(text);
         let row = self.chance.one_of(&[0, last / 2, last - 1, last, last]);
         let back = 1 + self.chance.below(2);
         self.go(row, self.width() - back);
@@ -352,6 +367,18 @@ impl List {
         self.keys(2);
     }
 
+    /// A text in several prints, cut between 13 and 10 often; at times a key is pressed between them.
+    fn parted_line_ends(&mut self) {
+        const PARTS: [&[u8]; 8] = [b"", b"", b"\r", b"A\r", b"\n", b"\nB", b"\r\n", b"\r\x07"];
+        for _ in 0..2 + self.chance.below(5) {
+            let part = self.chance.one_of(&PARTS);
+            self.print(part.to_vec());
+            if self.chance.below(8) == 0 {
+                self.key();
+            }
+        }
+    }
+
     /// Short words over row ends, of the first and last letters and digits, between the characters next to those.
     fn words(&mut self) {
         let (row, col) = (self.row(), self.column());
@@ -360,9 +387,18 @@ impl List {
         let text = self
             .chance
             .some_of(b"09AZaz09AZaz/:@[`{_\x80\xe9\xff    ", length);
-        self.call(PrintBytes(text));
+        self.print(text);
         for _ in 0..3 + self.chance.below(5) {
             self.one_call_of(&[WordLeft, WordLeft, WordLeft, WordRight, WordRight, MoveUp]);
         }
+    }
+}
+
+/// Document 02, (l): the bit "is set by a print whose last byte taken is 13, left by one that takes none and cleared by every other
+/// changing call".
+fn ended_in_cr_after(call: &Call, before: bool) -> bool {
+    match call {
+        PrintBytes(bytes) | PrintChecked(bytes) => bytes.last().map_or(before, |&last| last == 13),
+        _ => false,
     }
 }

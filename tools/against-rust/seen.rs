@@ -37,11 +37,12 @@ pub fn touched(before: &[Row], after: &[Row]) -> u64 {
     (0..ROWS).fold(0, |mask, r| mask | u64::from(before[r] != after[r]) << r)
 }
 
-/// What the Rust does not have: the sitting is kept by every call, the serial counts them.
+/// What the Rust does not have: the sitting is kept by every call, the serial counts them, and after some a print has ended with 13.
 pub struct Stamp {
     pub sitting: u32,
     pub serial: usize,
     pub touched: u64,
+    pub ended_in_cr: bool,
 }
 
 /// All that can be seen of a screen after a call, in the order of `seen` in `agrees.antt.txt`.
@@ -53,6 +54,7 @@ pub fn seen(screen: &Screen, rows: &[Row], stamp: &Stamp, submitted: &[u8]) -> u
         row as u64,
         col as u64,
         u64::from(screen.insert_mode()),
+        u64::from(stamp.ended_in_cr),
         u64::from(screen.keys_visible()),
         u64::from(screen.attr()),
         u64::from(stamp.sitting),

@@ -6,7 +6,7 @@ use calls::print;
 use calls::tab;
 use calls::typing;
 use calls::words;
-ghost use Rattle.editor.specs.Call.{PrintBytes, TypeChar, Backspace, DeleteChar, EraseToEnd, EscapeLine, Tab, CtrlEnter, TakeLogicalLine, BreakLine, MoveLeft, MoveRight, MoveUp, MoveDown, Home, WordLeft, WordRight, EndOfLine, Clear, SetWidth, SetCursor, SetInsert, SetAttr, SetKeysOn};
+ghost use Rattle.editor.specs.Call.{PrintBytes, PrintChecked, TypeChar, Backspace, DeleteChar, EraseToEnd, EscapeLine, Tab, CtrlEnter, TakeLogicalLine, BreakLine, MoveLeft, MoveRight, MoveUp, MoveDown, Home, WordLeft, WordRight, EndOfLine, Clear, SetWidth, SetCursor, SetInsert, SetAttr, SetKeysOn};
 ghost use Rattle.editor.specs.Outcome.{changing};
 ghost use Rattle.calls.specs.Answers.{Answers, Submits};
 
@@ -15,6 +15,13 @@ pub extern "C" fn screen_print_bytes(rec: &mut [u8], bytes: &[u8]) -> u32
     ensures { λ n. ⌜ Answers (changing (PrintBytes (now (bytes .entry))) (now (rec .entry))) n (now (rec .exit)) ⌝ }
 {
     print::print_bytes(rec, bytes)
+}
+
+#[no_mangle]
+pub extern "C" fn screen_print_checked(rec: &mut [u8], bytes: &[u8]) -> u32
+    ensures { λ n. ⌜ Answers (changing (PrintChecked (now (bytes .entry))) (now (rec .entry))) n (now (rec .exit)) ⌝ }
+{
+    print::print_checked(rec, bytes)
 }
 
 #[no_mangle]

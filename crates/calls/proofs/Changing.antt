@@ -14,13 +14,13 @@ use borrow.Author.Tests.{eq-eqb, ne-eqb, leb-true}
 use Rattle.bytes.specs.Choice.{if_then_else_}
 use Rattle.bytes.specs.Answer.{over}
 use Rattle.bytes.specs.Width.{widthb}
-use Rattle.bytes.specs.Refusals.{firstOf, refusedWith, orElse}
+use Rattle.bytes.specs.Refusals.{firstOf, allPass, refusedWith, orElse}
 use Rattle.bytes.proofs.WidthLaws.{width-cases, width-to}
 use Rattle.bytes.proofs.Found.{else-none, refused-none, refusal-some, refusal-number}
 use Rattle.bytes.proofs.Bools.{pick, skip}
 use Rattle.grid.specs.Layout.{SIZE, FLAGS}
 use Rattle.grid.specs.Pair.{nextPair}
-use Rattle.grid.specs.Screen.{touchedRows}
+use Rattle.grid.specs.Screen.{withCr, touchedRows}
 use Rattle.grid.specs.Record.{rowsOf, screenOf, pairOf, serialOf, stampOf, readState, stateBytes, frontBytes, Leaves, Moves}
 use Rattle.grid.specs.Facts.{HeadFits, Valid}
 use Rattle.grid.specs.declared.head.Head.{Head}
@@ -29,19 +29,19 @@ use Rattle.grid.proofs.Validity.{head-fits}
 use Rattle.grid.proofs.Record.{left-bytes}
 use Rattle.grid.proofs.TouchedLaws.{touched-none}
 use Rattle.grid.proofs.RefusalLaws.{Taken, taken}
-use Rattle.editor.specs.Call.{Call, SetWidth, rule, output, lengths, own, apply, submitted, answer, step}
+use Rattle.editor.specs.Call.{Call, PrintBytes, SetWidth, rule, output, lengths, own, inRange, apply, submitted, answer, crAfter, afterCall, step}
 use Rattle.editor.specs.Outcome.{serialTests, changeTests, changing, LAST-SERIAL}
 use Rattle.editor.specs.Given.{Copied, Ends}
 use Rattle.editor.proofs.KeptCall.{apply-facts}
 use Rattle.editor.proofs.Refusals.{going}
-use Rattle.calls.specs.Answers.{Answers, changeAnswer}
+use Rattle.calls.specs.Answers.{Answers, lateAnswer, changeAnswer}
 use Rattle.calls.proofs.RefusalLaws.{tests-answer, tested-own}
 
 -- ---- what is so of an accepted call: long and o are what `change_refused` was given
 
 module _ (long : Bool) (l : List ℕ) (o k : ℕ) (is : k ≡ changeAnswer long o l) (zero : k ≡ 0) where
   parts : (refusedWith (firstOf (recordTests long l)) ≡ 0) × (orElse o (refusedWith (firstOf (serialTests l))) ≡ 0)
-  unfolding changeAnswer
+  unfolding lateAnswer changeAnswer
   parts = else-none _ _ (sym is ∙ zero)
 
   facts : Taken long l
@@ -113,12 +113,13 @@ module _ (c : Call) (l : List ℕ) (o k : ℕ) (io : o ≡ refusedWith (firstOf 
   module _ (zero : k ≡ 0) where
     -- the state that the call leaves, from its rows and its head
     state-left : (h : Head) (m n : List ℕ) (touched : ℕ) → rowsOf m ≡ apply c (screenOf l) .rows → length m ≡ SIZE → h ≡ apply c (screenOf l) .head
-        → touched ≡ touchedRows (rowsOf l) (apply c (screenOf l) .rows) → n ≡ frontBytes h (record { pair = nextPair (pairOf l); touched = touched }) ++ drop FLAGS m
+        → touched ≡ touchedRows (rowsOf l) (apply c (screenOf l) .rows)
+        → n ≡ frontBytes (withCr h (crAfter c (screenOf l))) (record { pair = nextPair (pairOf l); touched = touched }) ++ drop FLAGS m
         → n ≡ stateBytes (step c (readState l))
-    unfolding step readState stampOf
+    unfolding step afterCall readState stampOf
     state-left h m n touched rows size head et e =
-        left-bytes m n h (apply c (screenOf l) .rows) (record { pair = nextPair (pairOf l); touched = touched }) size rows e
-        ∙ ap₂ (λ (g : Head) (u : ℕ). stateBytes (record { screen = record { head = g; rows = apply c (screenOf l) .rows }; stamp = record { pair = nextPair (pairOf l); touched = u } })) head et
+        left-bytes m n (withCr h (crAfter c (screenOf l))) (apply c (screenOf l) .rows) (record { pair = nextPair (pairOf l); touched = touched }) size rows e
+        ∙ ap₂ (λ (g : Head) (u : ℕ). stateBytes (record { screen = record { head = withCr g (crAfter c (screenOf l)); rows = apply c (screenOf l) .rows }; stamp = record { pair = nextPair (pairOf l); touched = u } })) head et
 
     head-kept : (h : Head) → h ≡ apply c (screenOf l) .head → HeadFits h
     head-kept h e =
@@ -130,14 +131,14 @@ module _ (c : Call) (l : List ℕ) (o k : ℕ) (io : o ≡ refusedWith (firstOf 
       pub leaves-fits : HeadFits h
       leaves-fits = head-kept h (left .head)
 
-      pub leaves-state : (n : List ℕ) → n ≡ frontBytes h (record { pair = nextPair (pairOf old); touched = touchedRows (rowsOf old) (rowsOf m) }) ++ drop FLAGS m
+      pub leaves-state : (n : List ℕ) → n ≡ frontBytes (withCr h (crAfter c (screenOf old))) (record { pair = nextPair (pairOf old); touched = touchedRows (rowsOf old) (rowsOf m) }) ++ drop FLAGS m
           → n ≡ stateBytes (step c (readState l))
       leaves-state n e =
           state-left h m n (touchedRows (rowsOf l) (rowsOf m)) (left .becomes .rows) (left .becomes .size) (left .head)
           (ap (touchedRows (rowsOf l)) (left .becomes .rows)) (rw copy at e)
 
       pub call-done : (n : List ℕ) (v : ℕ) → v ≡ answer c (screenOf l)
-          → n ≡ frontBytes h (record { pair = nextPair (pairOf old); touched = touchedRows (rowsOf old) (rowsOf m) }) ++ drop FLAGS m → Answers (changing c l) v n
+          → n ≡ frontBytes (withCr h (crAfter c (screenOf old))) (record { pair = nextPair (pairOf old); touched = touchedRows (rowsOf old) (rowsOf m) }) ++ drop FLAGS m → Answers (changing c l) v n
       call-done n v ev e = rw (outcome-done zero) (record { number = ev; left = leaves-state n e })
 
     -- a call whose work reads the copy
@@ -149,7 +150,7 @@ module _ (c : Call) (l : List ℕ) (o k : ℕ) (io : o ≡ refusedWith (firstOf 
       copied-fits = leaves-fits old m copy h here
 
       pub copied-done : (n : List ℕ) (v : ℕ) → v ≡ answer c (screenOf l)
-          → n ≡ frontBytes h (record { pair = nextPair (pairOf old); touched = touchedRows (rowsOf old) (rowsOf m) }) ++ drop FLAGS m → Answers (changing c l) v n
+          → n ≡ frontBytes (withCr h (crAfter c (screenOf old))) (record { pair = nextPair (pairOf old); touched = touchedRows (rowsOf old) (rowsOf m) }) ++ drop FLAGS m → Answers (changing c l) v n
       copied-done n v ev e = call-done old m copy h here n v ev e
 
     -- `tab`, which also writes heads on the way
@@ -158,7 +159,7 @@ module _ (c : Call) (l : List ℕ) (o k : ℕ) (io : o ≡ refusedWith (firstOf 
       ends-fits = head-kept h (ends .head)
 
       pub ends-done : (n : List ℕ) (v : ℕ) → v ≡ answer c (screenOf l)
-          → n ≡ frontBytes h (record { pair = nextPair (pairOf old); touched = touchedRows (rowsOf old) (rowsOf m) }) ++ drop FLAGS m → Answers (changing c l) v n
+          → n ≡ frontBytes (withCr h (crAfter c (screenOf old))) (record { pair = nextPair (pairOf old); touched = touchedRows (rowsOf old) (rowsOf m) }) ++ drop FLAGS m → Answers (changing c l) v n
       ends-done n v ev e =
           rw (outcome-done zero)
           (record {
@@ -173,7 +174,7 @@ module _ (c : Call) (l : List ℕ) (o k : ℕ) (io : o ≡ refusedWith (firstOf 
       pub moves-fits : HeadFits h
       moves-fits = head-kept h (moves .head)
 
-      pub move-done : (n : List ℕ) (v : ℕ) → v ≡ answer c (screenOf l) → n ≡ frontBytes h (record { pair = nextPair (pairOf l); touched = 0 }) ++ drop FLAGS l
+      pub move-done : (n : List ℕ) (v : ℕ) → v ≡ answer c (screenOf l) → n ≡ frontBytes (withCr h (crAfter c (screenOf l))) (record { pair = nextPair (pairOf l); touched = 0 }) ++ drop FLAGS l
           → Answers (changing c l) v n
       move-done n v ev e =
           let f = going c l (none zero) in
@@ -190,3 +191,8 @@ pub set-width-fits : (w : ℕ) (t : Bool) (l : List ℕ) (o k : ℕ) → t ≡ w
     → (m : List ℕ) (h : Head) → Leaves (apply (SetWidth w) (screenOf l)) l m h → HeadFits h
 unfolding lengths own rule
 set-width-fits w t l o k it io is zero m h left = head-kept (SetWidth w) l o k (tested-own (widthb w) t o it io) is zero h (left .head)
+
+-- the checked print, whose work is that of the other print
+pub checked-fits : (bs l m : List ℕ) (h : Head) → Valid l → Leaves (apply (PrintBytes bs) (screenOf l)) l m h → HeadFits h
+unfolding inRange own rule allPass
+checked-fits bs l m h v left = subst HeadFits (sym (left .head)) (head-fits _ (apply-facts (PrintBytes bs) (screenOf l) refl (v .screen) .head))

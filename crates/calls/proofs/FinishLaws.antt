@@ -10,7 +10,8 @@ use mir.Val.{Fits}
 use lib.ListN.{drop}
 use Rattle.grid.specs.Layout.{FLAGS}
 use Rattle.grid.specs.Pair.{nextPair}
-use Rattle.grid.specs.Screen.{touchedRows}
+use Rattle.grid.specs.Screen.{withCr, touchedRows}
+use Rattle.grid.specs.Facts.{HeadFits}
 use Rattle.grid.specs.Record.{rowsOf, pairOf, serialOf, frontBytes}
 use Rattle.grid.specs.declared.head.Head.{Head}
 use Rattle.grid.specs.declared.pair.Pair.{Pair}
@@ -30,6 +31,16 @@ pub finished : (l m n : List ℕ) (h : Head) (p : Pair) (touched : ℕ) → p �
     → n ≡ frontBytes h (record { pair = nextPair (pairOf l); touched = touchedRows (rowsOf l) (rowsOf m) }) ++ drop FLAGS m
 finished l m n h p touched ep et e = e ∙ ap₂ (λ (x : Pair) (y : ℕ). frontBytes h (record { pair = x; touched = y }) ++ drop FLAGS m) ep et
 
-pub finished-move : (l n : List ℕ) (h : Head) (p : Pair) → p ≡ nextPair (pairOf l) → n ≡ frontBytes h (record { pair = p; touched = 0 }) ++ drop FLAGS l
-    → n ≡ frontBytes h (record { pair = nextPair (pairOf l); touched = 0 }) ++ drop FLAGS l
-finished-move l n h p ep e = e ∙ ap (λ (x : Pair). frontBytes h (record { pair = x; touched = 0 }) ++ drop FLAGS l) ep
+-- g is the head h with the bit v
+pub bit-fits : (h g : Head) (v : ℕ) → g ≡ withCr h v → HeadFits h → HeadFits g
+bit-fits h g v e f = rw e (record { width = f .width; row = f .row; col = f .col })
+
+module _ (h g : Head) (v : ℕ) (eg : g ≡ withCr h v) where
+  pub finished-bit : (l m n : List ℕ) (cr : ℕ) → v ≡ cr
+      → n ≡ frontBytes g (record { pair = nextPair (pairOf l); touched = touchedRows (rowsOf l) (rowsOf m) }) ++ drop FLAGS m
+      → n ≡ frontBytes (withCr h cr) (record { pair = nextPair (pairOf l); touched = touchedRows (rowsOf l) (rowsOf m) }) ++ drop FLAGS m
+  finished-bit l m n cr ev e = rw (← ev, ← eg) e
+
+  pub finished-move : (l n : List ℕ) (p : Pair) → p ≡ nextPair (pairOf l) → n ≡ frontBytes g (record { pair = p; touched = 0 }) ++ drop FLAGS l
+      → n ≡ frontBytes (withCr h v) (record { pair = nextPair (pairOf l); touched = 0 }) ++ drop FLAGS l
+  finished-move l n p ep e = rw (← ep, ← eg) e

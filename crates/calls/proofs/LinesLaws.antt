@@ -11,7 +11,7 @@ use Rattle.bytes.specs.Answer.{over, wrote, Writes}
 use Rattle.bytes.specs.Refusals.{firstOf, refusedWith}
 use Rattle.grid.specs.Layout.{FLAGS}
 use Rattle.grid.specs.Pair.{nextPair}
-use Rattle.grid.specs.Screen.{touchedRows}
+use Rattle.grid.specs.Screen.{withCr, touchedRows}
 use Rattle.grid.specs.Record.{rowsOf, screenOf, pairOf, frontBytes, Leaves}
 use Rattle.grid.specs.Facts.{HeadFits}
 use Rattle.grid.specs.declared.head.Head.{Head}
@@ -19,7 +19,7 @@ use Rattle.line.specs.Line.{MAX-LOGICAL, lineText}
 use Rattle.line.specs.Text.{Reads}
 use Rattle.line.specs.declared.reading.Reading.{Reading}
 use Rattle.editor.specs.Lines.{takeLogicalLine}
-use Rattle.editor.specs.Call.{TakeLogicalLine, output, lengths, own, submitted, answer, apply, rule}
+use Rattle.editor.specs.Call.{TakeLogicalLine, output, lengths, own, submitted, answer, apply, rule, crLeft, crAfter}
 use Rattle.editor.specs.Outcome.{changing}
 use Rattle.calls.specs.Answers.{Submits, changeAnswer}
 use Rattle.calls.proofs.RefusalLaws.{no-own}
@@ -50,9 +50,9 @@ module _ (l out : List ℕ) (n : ℕ) (is : n ≡ changeAnswer (leb MAX-LOGICAL 
       take-fits = copied-fits (TakeLogicalLine out) l 0 n own-is is′ zero old m copy h left
 
       pub take-done : (t : Reading) (v : ℕ) (r out′ : List ℕ) → Reads t (lineText (screenOf old))
-          → r ≡ frontBytes h (record { pair = nextPair (pairOf old); touched = touchedRows (rowsOf old) (rowsOf m) }) ++ drop FLAGS m
+          → r ≡ frontBytes (withCr h 0) (record { pair = nextPair (pairOf old); touched = touchedRows (rowsOf old) (rowsOf m) }) ++ drop FLAGS m
           → Writes (wrote (take (t .len) (t .bytes)) out) v out′ → Submits (changing (TakeLogicalLine out) l) v r out′
-      unfolding apply submitted answer output rule wrote
+      unfolding apply submitted answer output rule wrote crLeft crAfter
       take-done t v r out′ reads e w =
           let text : take (t .len) (t .bytes) ≡ lineText (screenOf l) = reads .text ∙ ap (λ (x : List ℕ). lineText (screenOf x)) copy in
           let here : Leaves (takeLogicalLine (screenOf l)) l m h = subst (λ (x : List ℕ). Leaves (takeLogicalLine (screenOf x)) l m h) copy left in

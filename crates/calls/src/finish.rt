@@ -1,4 +1,5 @@
-// The end of every changing call: the front of its record is written anew.
+// The end of every changing call: the front of its record is written anew, with the bit of document 02, (l), as the call leaves it.
+use editor::print;
 use grid::head;
 use grid::pair::Pair;
 ghost use mathlib.Core.Path.{_≡_};
@@ -6,9 +7,10 @@ ghost use mathlib.Core.List.{_++_};
 ghost use lib.ListN.{length, drop};
 ghost use Rattle.grid.specs.Layout.{SIZE, FLAGS};
 ghost use Rattle.grid.specs.Pair.{nextPair};
-ghost use Rattle.grid.specs.Screen.{touchedRows};
-ghost use Rattle.grid.specs.Record.{pairOf, serialOf, rowsOf, frontBytes};
+ghost use Rattle.grid.specs.Screen.{withCr, touchedRows};
+ghost use Rattle.grid.specs.Record.{headOf, pairOf, serialOf, rowsOf, frontBytes};
 ghost use Rattle.grid.specs.Facts.{HeadFits};
+ghost use Rattle.editor.specs.Call.{lastCr};
 ghost use Rattle.editor.specs.Outcome.{LAST-SERIAL};
 
 // The next serial of the same sitting.
@@ -25,7 +27,7 @@ fn next_pair(rec: &[u8]) -> Pair
 }
 
 // Writes the head h, the next serial and the rows that differ from the record's copy old.
-pub fn finish(rec: &mut [u8], old: &[u8], h: head::Head)
+fn write_changed(rec: &mut [u8], old: &[u8], h: head::Head)
     requires { ⌜ (length (now rec) ≡ SIZE) × (length (now old) ≡ SIZE) × HeadFits h × (serialOf (now old) ≡ LAST-SERIAL → ⊥) ⌝ }
     ensures { λ _. ⌜ now (rec .exit) ≡ frontBytes h (record { pair = nextPair (pairOf (now (old .entry))); touched = touchedRows (rowsOf (now (old .entry))) (rowsOf (now (rec .entry))) }) ++ drop FLAGS (now (rec .entry)) ⌝ }
 {
@@ -38,15 +40,32 @@ pub fn finish(rec: &mut [u8], old: &[u8], h: head::Head)
     head::write_front(rec, h, stamp);
 }
 
-// The same where no row has changed: nothing is touched.
+// The end of a call that may have changed rows, where old is the record's copy; it clears the bit.
+pub fn finish(rec: &mut [u8], old: &[u8], h: head::Head)
+    requires { ⌜ (length (now rec) ≡ SIZE) × (length (now old) ≡ SIZE) × HeadFits h × (serialOf (now old) ≡ LAST-SERIAL → ⊥) ⌝ }
+    ensures { λ _. ⌜ now (rec .exit) ≡ frontBytes (withCr h 0) (record { pair = nextPair (pairOf (now (old .entry))); touched = touchedRows (rowsOf (now (old .entry))) (rowsOf (now (rec .entry))) }) ++ drop FLAGS (now (rec .entry)) ⌝ }
+{
+    write_changed(rec, old, h.with_cr(0));
+}
+
+// The end of a print of bytes, whose last one decides about the bit.
+pub fn finish_print(rec: &mut [u8], old: &[u8], h: head::Head, bytes: &[u8])
+    requires { ⌜ (length (now rec) ≡ SIZE) × (length (now old) ≡ SIZE) × HeadFits h × (serialOf (now old) ≡ LAST-SERIAL → ⊥) ⌝ }
+    ensures { λ _. ⌜ now (rec .exit) ≡ frontBytes (withCr h (lastCr (headOf (now (old .entry)) .cr) (now (bytes .entry)))) (record { pair = nextPair (pairOf (now (old .entry))); touched = touchedRows (rowsOf (now (old .entry))) (rowsOf (now (rec .entry))) }) ++ drop FLAGS (now (rec .entry)) ⌝ }
+{
+    let cr = print::cr_left(old, bytes);
+    write_changed(rec, old, h.with_cr(cr));
+}
+
+// The end of a call that changes no row: nothing is touched, and the bit is cleared.
 pub fn finish_move(rec: &mut [u8], h: head::Head)
     requires { ⌜ (length (now rec) ≡ SIZE) × HeadFits h × (serialOf (now rec) ≡ LAST-SERIAL → ⊥) ⌝ }
-    ensures { λ _. ⌜ now (rec .exit) ≡ frontBytes h (record { pair = nextPair (pairOf (now (rec .entry))); touched = 0 }) ++ drop FLAGS (now (rec .entry)) ⌝ }
+    ensures { λ _. ⌜ now (rec .exit) ≡ frontBytes (withCr h 0) (record { pair = nextPair (pairOf (now (rec .entry))); touched = 0 }) ++ drop FLAGS (now (rec .entry)) ⌝ }
 {
     let next = next_pair(rec);
     let stamp = head::Stamp {
         pair: next,
         touched: 0,
     };
-    head::write_front(rec, h, stamp);
+    head::write_front(rec, h.with_cr(0), stamp);
 }

@@ -1,4 +1,4 @@
-// New screen and the changing calls of document 01 on a lent screen record: each refuses first, in document 01's order, and then does what its rule says.
+// New screen and the changing calls on a lent screen record: each refuses first, in the documents' order, and then does what its rule says.
 //
 // Promised: no function here asks anything of its caller. Each contract says, for every lent slice, the number answered and every byte left.
 pub mod finish;

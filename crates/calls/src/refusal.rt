@@ -1,20 +1,20 @@
 // The refusals of changing calls, beside those that all calls on a record share.
 use bytes::answer::REFUSED;
+use editor::print;
 use grid::refusal::record_refused;
 ghost use mathlib.Core.Path.{_≡_};
-ghost use Rattle.calls.specs.Answers.{changeAnswer};
+ghost use mathlib.Core.Bool.{true};
+ghost use lib.ListN.{length};
+ghost use Rattle.grid.specs.Layout.{SIZE};
+ghost use Rattle.calls.specs.Answers.{lateAnswer, changeAnswer, splitAnswer};
 
 const LAST_SERIAL: u32 = 4294967295;
 
-// What a changing call answers if it is refused, else 0. lengths: every lent slice beside the record has a length that is taken; own: what the call's own
-// refusals answer, 0 if there is none.
-pub fn change_refused(rec: &[u8], lengths: bool, own: u32) -> u32
-    ensures { λ n. ⌜ n ≡ changeAnswer lengths own (now (rec .entry)) ⌝ }
+// What a changing call answers if it is refused behind the record's refusals, else 0. own: what the call's own refusals answer, 0 if there is none.
+fn late_refused(rec: &[u8], own: u32) -> u32
+    requires { ⌜ length (now rec) ≡ SIZE ⌝ }
+    ensures { λ n. ⌜ n ≡ lateAnswer own (now (rec .entry)) ⌝ }
 {
-    let n = record_refused(rec, lengths);
-    if n != 0 {
-        return n;
-    }
     if own != 0 {
         return own;
     }
@@ -23,4 +23,36 @@ pub fn change_refused(rec: &[u8], lengths: bool, own: u32) -> u32
         return REFUSED + 4;
     }
     0
+}
+
+// What a changing call answers if it is refused, else 0. lengths: every lent slice beside the record has a length that is taken.
+pub fn change_refused(rec: &[u8], lengths: bool, own: u32) -> u32
+    ensures { λ n. ⌜ n ≡ changeAnswer lengths own (now (rec .entry)) ⌝ }
+{
+    let n = record_refused(rec, lengths);
+    if n != 0 {
+        return n;
+    }
+    late_refused(rec, own)
+}
+
+fn split_refused(rec: &[u8], bytes: &[u8]) -> u32
+    requires { ⌜ length (now rec) ≡ SIZE ⌝ }
+    ensures { λ n. ⌜ n ≡ splitAnswer (now (bytes .entry)) (now (rec .entry)) ⌝ }
+{
+    if print::splits(rec, bytes) {
+        return REFUSED + 13;
+    }
+    0
+}
+
+// The same of the checked print, whose own refusal looks into the record.
+pub fn checked_refused(rec: &[u8], bytes: &[u8]) -> u32
+    ensures { λ n. ⌜ n ≡ changeAnswer true (splitAnswer (now (bytes .entry)) (now (rec .entry))) (now (rec .entry)) ⌝ }
+{
+    let n = record_refused(rec, true);
+    if n != 0 {
+        return n;
+    }
+    late_refused(rec, split_refused(rec, bytes))
 }

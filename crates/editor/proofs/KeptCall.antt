@@ -1,8 +1,9 @@
 -- A call whose arguments are in range keeps a valid screen valid.
 -- Assumes nothing.
-use Prim.Native.Nat.{ℕ}
+use Prim.Native.Nat.{ℕ, _≤_}
 use mathlib.Core.Path.{_≡_, refl}
 use mathlib.Core.Bool.{true, false}
+use mathlib.Core.List.{List, [], _∷_}
 use native.Mathlib.Omega.{arith}
 use borrow.Author.Tests.{leb-true}
 use Rattle.grid.specs.Screen.{Screen}
@@ -11,15 +12,17 @@ use Rattle.values.specs.Attr.{attrOf}
 use Rattle.grid.specs.Facts.{ScreenFacts}
 use Rattle.values.proofs.CursorLaws.{left-inside, right-inside, up-inside, down-inside}
 use Rattle.bytes.proofs.WidthLaws.{width-cases}
-use Rattle.editor.specs.Call.{Call, rule, inRange, apply, own}
-use Rattle.editor.specs.Call.Call.{PrintBytes, TypeChar, Backspace, DeleteChar, EraseToEnd, EscapeLine, Tab, CtrlEnter, TakeLogicalLine, BreakLine, MoveLeft, MoveRight, MoveUp, MoveDown, Home, WordLeft, WordRight, EndOfLine, Clear, SetWidth, SetCursor, SetInsert, SetAttr, SetKeysOn}
+use Rattle.editor.specs.Call.{Call, Printed, rule, inRange, apply, own, lastCr, crLeft, crAfter, afterCall}
+use Rattle.editor.specs.Call.Printed.{NoPrint, Took}
+use Rattle.editor.specs.Call.Call.{PrintBytes, PrintChecked, TypeChar, Backspace, DeleteChar, EraseToEnd, EscapeLine, Tab, CtrlEnter, TakeLogicalLine, BreakLine, MoveLeft, MoveRight, MoveUp, MoveDown, Home, WordLeft, WordRight, EndOfLine, Clear, SetWidth, SetCursor, SetInsert, SetAttr, SetKeysOn}
 use Rattle.editor.specs.Modes.{setWidth, setKeysOn}
 use Rattle.line.proofs.Kept.{Kept}
 use Rattle.editor.proofs.KeptPrint.{printed}
 use Rattle.editor.proofs.KeptTyping.{type-char, delete-char, back-space, erase-to-end, escape-line, tabbed, ctrl-enter, take-line, break-line}
 use Rattle.editor.proofs.KeptMotion.{KeptModes, valid-modes, here, moved, homed, clamped, word-left, word-right, end-of-line, cleared, width-set, keys-set}
 use Rattle.bytes.specs.Refusals.{allPass}
-use Rattle.bytes.proofs.Bools.{and-left}
+use Rattle.bytes.proofs.Bools.{and-left, either}
+use Rattle.grid.proofs.Validity.{with-cr-facts}
 use lib.Dec.{leb}
 use Rattle.bytes.specs.Width.{widthb}
 
@@ -32,6 +35,7 @@ module _ {P : Screen → Type 0} (m : KeptModes P) where
       → ((v : ℕ) → c ≡ SetKeysOn v → P (setKeysOn v s)) → P (apply c s)
   unfolding apply inRange own rule allPass
   apply-kept (PrintBytes bs) s r p wide keys = printed k bs false s p
+  apply-kept (PrintChecked bs) s r p wide keys = printed k bs false s p
   apply-kept (TypeChar ch) s r p wide keys = type-char k s ch p
   apply-kept Backspace s r p wide keys = back-space k s p
   apply-kept DeleteChar s r p wide keys = delete-char k s p
@@ -60,3 +64,21 @@ pub apply-facts : (c : Call) (s : Screen) → inRange c s ≡ true → ScreenFac
 unfolding inRange own rule allPass
 apply-facts c s r f =
     apply-kept valid-modes c s r f (λ w e. width-set s f w (width-cases w (and-left (widthb w) true (rw e at r)))) (λ v e. keys-set s f v (leb-true v 1 (and-left (leb v 1) true (rw e at r))))
+
+-- ---- and so does the bit that it leaves
+
+last-switch : (bs : List ℕ) (cr : ℕ) → cr ≤ 1 → lastCr cr bs ≤ 1
+unfolding lastCr
+last-switch [] cr h = h
+last-switch (b ∷ bs) cr h = last-switch bs _ (either (λ (v : ℕ). v ≤ 1) _ _ _ (omega arith) (omega arith))
+
+left-switch : (p : Printed) (cr : ℕ) → cr ≤ 1 → crLeft p cr ≤ 1
+unfolding crLeft
+left-switch NoPrint cr h = omega arith
+left-switch (Took bs) cr h = last-switch bs _ (omega arith)
+
+pub after-facts : (c : Call) (s : Screen) → inRange c s ≡ true → ScreenFacts s → ScreenFacts (afterCall c s)
+unfolding afterCall crAfter
+after-facts c s r f =
+    let g = apply-facts c s r f in
+    record { head = with-cr-facts (apply c s .head) _ (g .head) (left-switch (rule c .printed s) (s .head .cr) (f .head .cr)); rows = g .rows }

@@ -100,8 +100,8 @@ valid-modes =
     record {
       kept = valid-kept;
       insert = λ s v f h.
-          record { head = head-is _ (f .head .widths) (f .head .row) (f .head .col) h (f .head .keys) (f .head .foreground) (f .head .background); rows = f .rows };
-      attr = λ s a f h l. record { head = head-is _ (f .head .widths) (f .head .row) (f .head .col) (f .head .insert) (f .head .keys) h l; rows = f .rows };
+          record { head = head-is _ (f .head .widths) (f .head .row) (f .head .col) h (f .head .cr) (f .head .keys) (f .head .foreground) (f .head .background); rows = f .rows };
+      attr = λ s a f h l. record { head = head-is _ (f .head .widths) (f .head .row) (f .head .col) (f .head .insert) (f .head .cr) (f .head .keys) h l; rows = f .rows };
     }
 
 -- and in the two modes that change more than the editable rows
@@ -110,7 +110,7 @@ module _ (s : Screen) (f : ScreenFacts s) where
   unfolding setWidth
   width-set w c =
       record {
-        head = head-is _ c (omega arith) (omega (arith, width-from w c)) (omega arith) (f .head .keys) (f .head .foreground) (f .head .background);
+        head = head-is _ c (omega arith) (omega (arith, width-from w c)) (omega arith) (f .head .cr) (f .head .keys) (f .head .foreground) (f .head .background);
         rows = rows-replicate w 25 _ (blank-row w _ (width-to w c));
       }
 
@@ -119,6 +119,6 @@ module _ (s : Screen) (f : ScreenFacts s) where
   keys-set v h =
       let i = clamp-inside (s .head .width) (editable v) (s .head .cursor) (omega arith) (omega (arith, editable-from v)) in
       record {
-        head = head-is _ (f .head .widths) (i .row) (i .col) (f .head .insert) h (f .head .foreground) (f .head .background);
+        head = head-is _ (f .head .widths) (i .row) (i .col) (f .head .insert) (f .head .cr) h (f .head .foreground) (f .head .background);
         rows = f .rows;
       }

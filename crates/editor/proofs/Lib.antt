@@ -6,7 +6,10 @@ pub mod KeptCall
 pub mod Answers
 pub mod Refusals
 pub mod Lists
+pub mod PrintParts
+pub mod CheckedPrints
 pub mod PrintLaws
+pub mod CrLaws
 pub mod TypingLaws
 pub mod TabLaws
 pub mod LinesLaws

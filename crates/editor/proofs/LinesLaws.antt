@@ -184,7 +184,7 @@ module _ (l old : List ℕ) (h : Head) (copied : Copied l old) (ih : h ≡ headO
   begins-row g c r ec eg k =
       let f = head-facts in
       rw (eg, ec)
-      (head-is _ (f .widths) (omega (arith, span .inside)) (omega (arith, f .width-from)) (f .insert) (f .keys) (f .foreground) (f .background))
+      (head-is _ (f .widths) (omega (arith, span .inside)) (omega (arith, f .width-from)) (f .insert) (f .cr) (f .keys) (f .foreground) (f .background))
 
   module _ (g : Head) (c : Cursor) (ec : c ≡ at end 0) (eg : g ≡ withCursor h c) where
     at-end : g ≡ withCursor h (at end 0)

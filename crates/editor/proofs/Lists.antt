@@ -23,9 +23,9 @@ use Rattle.grid.proofs.TouchedLaws.{number-lt, length-differing}
 use Rattle.grid.proofs.Validity.{screen-facts, screen-valid}
 use Rattle.grid.proofs.Conditions.{conditions-record, record-facts}
 use Rattle.grid.specs.declared.pair.Pair.{Pair}
-use Rattle.editor.specs.Call.{Call, inRange, step}
+use Rattle.editor.specs.Call.{Call, inRange, afterCall, step}
 use Rattle.editor.specs.Outcome.{LAST-SERIAL, Outcome, changing}
-use Rattle.editor.proofs.KeptCall.{apply-facts}
+use Rattle.editor.proofs.KeptCall.{after-facts}
 use Rattle.editor.proofs.Refusals.{changing-answers, change-none, going}
 use Rattle.bytes.proofs.Found.{is-accepted, is-refused}
 use Rattle.bytes.specs.Choice.{if_then_else_}
@@ -41,10 +41,10 @@ touched-lt {old = old} {new = new} f g =
 
 module _ (c : Call) (t : State) (f : StateFacts t) where
   pub state-step : inRange c (t .screen) ≡ true → t .stamp .pair .serial < LAST-SERIAL → StateFacts (step c t)
-  unfolding step nextPair
+  unfolding step nextPair afterCall
   state-step r h =
       let old = screen-facts (t .screen) (f .screen) in
-      let new = apply-facts c (t .screen) r old in
+      let new = after-facts c (t .screen) r old in
       record { pair = record { sitting = f .pair .sitting; serial = omega arith }; touched = touched-lt (old .rows) (new .rows); screen = screen-valid _ new }
 
 -- ---- one call
@@ -53,6 +53,7 @@ pub change-refused : (c : Call) (l : List ℕ) → isRefusal (changing c l .numb
 change-refused c l r = changing-answers c l .kept (is-refused _ r) .0
 
 pub record Changed (c : Call) (t : State) : Type 0 where
+  pub in-range : inRange c (t .screen) ≡ true
   pub left : changing c (stateBytes t) .rec ≡ stateBytes (step c t)
   pub facts : StateFacts (step c t)
 
@@ -65,13 +66,14 @@ change-accepted c t f r =
     let range : inRange c (t .screen) ≡ true = ap (λ (x : State). inRange c (x .screen)) (sym back) ∙ g .in-range in
     let serial : t .stamp .pair .serial ≢ LAST-SERIAL = λ q. g .serial (ap (λ (p : Pair). p .serial) (pair-back t f) ∙ q) in
     record {
+      in-range = range;
       left = ap (λ (o : Outcome). o .rec) (changing-answers c (stateBytes t) .done h) ∙ ap (λ (x : State). stateBytes (step c x)) back;
       facts = state-step c t f range (omega (arith, f));
     }
 
 -- ---- a call on a valid record leaves a valid record
 
-state-of : (l : List ℕ) → Valid l → every isByte l ≡ true → StateFacts (readState l)
+pub state-of : (l : List ℕ) → Valid l → every isByte l ≡ true → StateFacts (readState l)
 unfolding readState stampOf pairOf
 state-of l v b =
     record { pair = pair-fits l PAIR b (omega (arith, v .size)); touched = v .touched; screen = screen-valid _ (v .screen) }

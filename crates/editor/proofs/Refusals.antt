@@ -6,7 +6,7 @@ use mathlib.Core.Bool.{Bool, true, false, not, _&&_, true≢false, not-eq-not}
 use mathlib.Core.List.{List, [], _∷_, _++_}
 use mathlib.Core.Logic.{_≢_, inl, inr, ⊎-elim}
 use native.Mathlib.Omega.{arith}
-use lib.ListN.{length}
+use lib.ListN.{length, getD}
 use lib.Dec.{leb, ltb, eqb}
 use borrow.Author.Tests.{ltb-false, leb-false, eqb-false, le-ltb, lt-leb, eq-eqb, eqb-true, ne-eqb, not-false}
 use Rattle.bytes.specs.Choice.{if_then_else_}
@@ -16,17 +16,18 @@ use Rattle.grid.specs.Screen.{Screen, newState}
 use Rattle.bytes.specs.Width.{widthb}
 use Rattle.bytes.specs.Test.{every, isByte}
 use Rattle.grid.specs.Record.{serialOf, screenOf, readState, stateBytes}
-use Rattle.bytes.proofs.Bools.{and-false, left-false, and-cases, and-right, and-left}
+use Rattle.bytes.proofs.Bools.{and-false, left-false, and-cases, and-right, and-left, and-both}
 use Rattle.bytes.proofs.WidthLaws.{width-cases, cases-width}
 use Rattle.line.proofs.KeptLine.{line-fits}
+use Rattle.editor.specs.Print.{splits}
 use Rattle.editor.specs.Call.{Call, rule, output, lengths, own, inRange, submitted, answer, step}
-use Rattle.editor.specs.Call.Call.{PrintBytes, TypeChar, Backspace, DeleteChar, EraseToEnd, EscapeLine, Tab, CtrlEnter, TakeLogicalLine, BreakLine, MoveLeft, MoveRight, MoveUp, MoveDown, Home, WordLeft, WordRight, EndOfLine, Clear, SetWidth, SetCursor, SetInsert, SetAttr, SetKeysOn}
+use Rattle.editor.specs.Call.Call.{PrintBytes, PrintChecked, TypeChar, Backspace, DeleteChar, EraseToEnd, EscapeLine, Tab, CtrlEnter, TakeLogicalLine, BreakLine, MoveLeft, MoveRight, MoveUp, MoveDown, Home, WordLeft, WordRight, EndOfLine, Clear, SetWidth, SetCursor, SetInsert, SetAttr, SetKeysOn}
 use Rattle.editor.specs.Outcome.{LAST-SERIAL, serialTests, changeTests, Outcome, changing, creating, Query, inside, value, queryTests, asking, TextCall, room, textOf, texting}
 use Rattle.editor.specs.Outcome.Query.{AskWidth, AskCursor, AskAttr, AskEditableRows, AskCell, AskContinues}
 use Rattle.editor.specs.Outcome.TextCall.{LogicalText, Snapshot}
 use Rattle.editor.specs.Refusals.{WrongLength, ArgumentRefused, ChangeRefused, ChangingAnswers, NewRefused, CreatingAnswers, Outside, QueryRefused, AskingAnswers, ShortText, TextRefused, TextingAnswers}
 use Rattle.editor.specs.Refusals.WrongLength.{line}
-use Rattle.editor.specs.Refusals.ArgumentRefused.{character, attribute, insert, keys, width}
+use Rattle.editor.specs.Refusals.ArgumentRefused.{character, attribute, insert, keys, width, split}
 use Rattle.editor.specs.Refusals.ChangeRefused.{record-length, lent-length, layout, argument, last-serial}
 use Rattle.editor.specs.Refusals.NewRefused.{record-length as new-length}
 use Rattle.editor.specs.Refusals.Outside.{cell-row, cell-column, continues-row}
@@ -76,12 +77,29 @@ given-tells c ok r n one o outside =
     go s k (now e) = outside s e
     go s k (later e f) = none-first f
 
+-- the checked print
+checked-tells : (bs : List ℕ) → ((l : List ℕ) → ordered 0 (changeTests (PrintChecked bs) l) ≡ true) → Tells (PrintChecked bs)
+unfolding lengths own answer rule splits
+checked-tells bs o =
+    record { short = λ e. absurd (true≢false e); own-first = λ s k f. go bs s k f; small = λ s. omega arith; order = o }
+  where
+    begins : (cs : List ℕ) (s : Screen) → eqb (getD cs 0 0) 10 && eqb (s .head .cr) 1 ≡ true → ArgumentRefused s (PrintChecked cs) 13
+    begins [] s e = absurd (true≢false (sym e))
+    begins (c ∷ cs) s e =
+        let ten = sym (eqb-true c 10 (and-left (eqb c 10) _ e)) in
+        subst (λ (x : ℕ). ArgumentRefused s (PrintChecked (x ∷ cs)) 13) ten (split (eqb-true _ _ (and-right (eqb c 10) _ e)))
+
+    go : (cs : List ℕ) (s : Screen) (k : ℕ) → First ((13, not (eqb (getD cs 0 0) 10 && eqb (s .head .cr) 1)) ∷ []) k → ArgumentRefused s (PrintChecked cs) k
+    go cs s k (now e) = begins cs s (not-false _ e)
+    go cs s k (later e f) = none-first f
+
 width-not : (w : ℕ) → widthb w ≡ false → (w ≢ 40) × (w ≢ 80)
 width-not w e = (λ q. true≢false (sym (cases-width w (inl q)) ∙ e), λ q. true≢false (sym (cases-width w (inr q)) ∙ e))
 
 pub tells : (c : Call) → Tells c
 unfolding lengths own answer rule changeTests recordTests serialTests ordered placeIn order if_then_else_
 tells (PrintBytes bs) = always-tells _ refl (λ s. refl) (λ s. refl) (λ l. refl)
+tells (PrintChecked bs) = checked-tells bs (λ l. refl)
 tells (TypeChar ch) = given-tells _ _ refl (λ s. refl) (λ s. refl) (λ l. refl) (λ s e. character (leb-false ch 255 e))
 tells Backspace = always-tells _ refl (λ s. refl) (λ s. refl) (λ l. refl)
 tells DeleteChar = always-tells _ refl (λ s. refl) (λ s. refl) (λ l. refl)
@@ -112,11 +130,12 @@ unfolding lengths rule
 wrong-fails (line h) = lt-leb _ _ h
 
 argument-fails : {s : Screen} {c : Call} {k : ℕ} → ArgumentRefused s c k → Fails (own c s) k
-unfolding own rule
+unfolding own rule splits
 argument-fails (character h) = here (lt-leb _ _ h)
 argument-fails (attribute h) = here (lt-leb _ _ h)
 argument-fails (insert h) = here (lt-leb _ _ h)
 argument-fails (keys h) = here (lt-leb _ _ h)
+argument-fails (split e) = here (ap not (and-both true _ refl (eq-eqb _ _ e)))
 argument-fails (width n m) = here (not-eq-not {b = false} .0 (λ t. ⊎-elim n m (width-cases _ t)))
 
 module _ (c : Call) (l : List ℕ) where

@@ -12,14 +12,13 @@ use Rattle.bytes.specs.Choice.{if_then_else_}
 use Rattle.grid.specs.Layout.{SIZE, FLAGS, MASKS}
 use Rattle.grid.specs.Screen.{Row, Screen, withCursor, moveTo, editable}
 use Rattle.values.specs.Cursor.{at}
-use Rattle.values.specs.Attr.{attrOf, byteOf}
 use Rattle.grid.specs.Record.{rowsOf, headOf, screenOf, touchedOf, frontBytes, rowsBytes, Leaves, stampOf, headAt}
 use Rattle.grid.specs.Facts.{HeadFacts, HeadFits, RowsFacts, ScreenFacts, Valid}
 use Rattle.values.specs.declared.cursor.Cursor.{Cursor}
 use Rattle.grid.specs.declared.head.Head.{Head}
 use Rattle.bytes.proofs.Bools.{pick, skip, picked, skipped}
 use Rattle.grid.proofs.Validity.{head-fits}
-use Rattle.values.proofs.AttrLaws.{attr-back}
+use Rattle.grid.proofs.HeadLaws.{head-whole}
 use Rattle.grid.proofs.Record.{rows-bytes}
 use Rattle.bytes.proofs.NumberLaws.{whole4}
 use Rattle.grid.proofs.Bytes.{rows-back}
@@ -38,9 +37,7 @@ module _ (h : Head) (s : Stamp) (m n : List ℕ) (f : HeadFacts h) (rows : RowsF
     (is : n ≡ frontBytes h s ++ drop FLAGS m) where
   head-back : (rest : List ℕ) → headOf (frontBytes h s ++ rest) ≡ h
   unfolding headOf headAt frontBytes
-  head-back rest =
-      let a : attrOf (byteOf (h .attr)) ≡ h .attr = attr-back (h .attr) (f .foreground) (f .background) in
-      λ i. record { width = h .width; cursor = h .cursor; insert = h .insert; keys = h .keys; attr = a i }
+  head-back rest = head-whole h f
 
   whole : n ≡ frontBytes h s ++ rowsBytes (rowsOf m)
   whole = is ∙ ap (λ (x : List ℕ). frontBytes h s ++ x) (sym (rows-bytes m len))

@@ -1,18 +1,19 @@
--- The 24 changing calls, and what an accepted one does to what a record holds.
+-- The 25 changing calls, and what an accepted one does to what a record holds.
 -- Assumes nothing.
 use Prim.Native.Nat.{ℕ}
-use mathlib.Core.Bool.{Bool, true}
+use mathlib.Core.Bool.{Bool, true, not}
 use mathlib.Core.List.{List, [], _∷_}
-use lib.Dec.{leb}
+use lib.Dec.{leb, eqb}
 use lib.ListN.{length}
+use Rattle.bytes.specs.Choice.{if_then_else_}
 use Rattle.bytes.specs.Refusals.{allPass}
 use Rattle.grid.specs.Pair.{nextPair}
-use Rattle.grid.specs.Screen.{Screen, State, moveTo, editable, touchedRows}
+use Rattle.grid.specs.Screen.{Screen, State, withBit, moveTo, editable, touchedRows}
 use Rattle.values.specs.Cursor.{at, home, left, right, up, down, clamp}
 use Rattle.values.specs.Attr.{attrOf}
 use Rattle.bytes.specs.Width.{widthb}
 use Rattle.line.specs.Line.{MAX-LOGICAL, lineText}
-use Rattle.editor.specs.Print.{printBytes}
+use Rattle.editor.specs.Print.{printBytes, splits}
 use Rattle.editor.specs.Typing.{typeChar, backspace, deleteChar, eraseToEnd}
 use Rattle.editor.specs.Lines.{escapeLine, ctrlEnter, takeLogicalLine, breakLine}
 use Rattle.editor.specs.Tab.{tab}
@@ -22,7 +23,7 @@ use Rattle.editor.specs.Modes.{clear, setWidth, setInsert, setAttr, setK
 
 -- `take_logical_line` has the output that it is lent, as it is at entry
 pub data Call : Type 0 where
-  PrintBytes : List ℕ → Call
+  PrintBytes PrintChecked : List ℕ → Call
   TypeChar : ℕ → Call
   Backspace DeleteChar EraseToEnd EscapeLine Tab CtrlEnter : Call
   TakeLogicalLine : List ℕ → Call
@@ -34,20 +35,27 @@ pub data Call : Type 0 where
 
 -- ---- the rule of a call
 
+-- of a print, the bytes that it takes
+pub data Printed : Type 0 where
+  NoPrint : Printed
+  Took : List ℕ → Printed
+
 pub record Rule : Type 0 where
   -- the output lent, and whether every lent slice beside the record has a length that is taken: else refusal 1
   pub output : List ℕ
   pub lengths : Bool
   -- its own refusals, in their order: tests of its arguments, on the screen
   pub own : Screen → List (ℕ × Bool)
+  -- what it does to the screen, the bit of document 02, (l), aside; and the bytes that decide about the bit, which on another screen may be more or fewer
   pub apply : Screen → Screen
+  pub printed : Screen → Printed
   -- the text handed out, and the number answered
   pub submitted : Screen → List ℕ
   pub answer : Screen → ℕ
 
 -- a call with no output, no text and the answer 0
 abbrev pub plain : (Screen → List (ℕ × Bool)) → (Screen → Screen) → Rule
-plain own f = record { output = []; lengths = true; own = own; apply = f; submitted = λ s. []; answer = λ s. 0 }
+plain own f = record { output = []; lengths = true; own = own; apply = f; printed = λ s. NoPrint; submitted = λ s. []; answer = λ s. 0 }
 
 abbrev pub always : (Screen → Screen) → Rule
 always f = plain (λ s. []) f
@@ -56,13 +64,19 @@ always f = plain (λ s. []) f
 abbrev pub given : Bool → (Screen → Screen) → Rule
 given ok f = plain (λ s. (3, ok) ∷ []) f
 
+-- a print of bs
+abbrev pub printing : (Screen → List (ℕ × Bool)) → List ℕ → Rule
+printing own bs =
+    record { output = []; lengths = true; own = own; apply = λ s. printBytes s bs; printed = λ s. Took bs; submitted = λ s. []; answer = λ s. 0 }
+
 -- a call that hands out a text in an output of at least room bytes, and answers its length
 abbrev pub handing : List ℕ → ℕ → (Screen → List ℕ) → (Screen → Screen) → Rule
 handing out room text f =
-    record { output = out; lengths = leb room (length out); own = λ s. []; apply = f; submitted = text; answer = λ s. length (text s) }
+    record { output = out; lengths = leb room (length out); own = λ s. []; apply = f; printed = λ s. NoPrint; submitted = text; answer = λ s. length (text s) }
 
 unfoldable pub rule : Call → Rule
-rule (PrintBytes bs) = always (λ s. printBytes s bs)
+rule (PrintBytes bs) = printing (λ s. []) bs
+rule (PrintChecked bs) = printing (λ s. (13, not (splits s bs)) ∷ []) bs
 rule (TypeChar ch) = given (leb ch 255) (λ s. typeChar s ch)
 rule Backspace = always backspace
 rule DeleteChar = always deleteChar
@@ -109,10 +123,28 @@ submitted c s = rule c .submitted s
 unfoldable pub answer : Call → Screen → ℕ
 answer c s = rule c .answer s
 
+-- ---- document 02, (l): "the next bit is set by a print whose last byte taken is 13, left by one that takes none and cleared by every other changing call"
+
+-- a print: each byte taken sets or clears it, so the last one decides
+unfoldable pub lastCr : ℕ → List ℕ → ℕ
+lastCr cr [] = cr
+lastCr cr (b ∷ bs) = lastCr (if eqb b 13 then 1 else 0) bs
+
+unfoldable pub crLeft : Printed → ℕ → ℕ
+crLeft NoPrint cr = 0
+crLeft (Took bs) cr = lastCr cr bs
+
+unfoldable pub crAfter : Call → Screen → ℕ
+crAfter c s = crLeft (rule c .printed s) (s .head .cr)
+
 -- ---- an accepted call
+
+-- what it makes of a screen
+unfoldable pub afterCall : Call → Screen → Screen
+afterCall c s = withBit (apply c s) (crAfter c s)
 
 -- the serial goes up by 1 in the same sitting, and the touched rows are those that differ
 unfoldable pub step : Call → State → State
 step c t =
-    let s = apply c (t .screen) in
+    let s = afterCall c (t .screen) in
     record { screen = s; stamp = record { pair = nextPair (t .stamp .pair); touched = touchedRows (t .screen .rows) (s .rows) } }

@@ -1,5 +1,5 @@
--- The rules of document 01 on values, a file for each of its sections in its order; the calls; what an exported call answers and leaves; and which
--- calls are refused. `Given` is no rule: contracts inside this crate cite it.
+-- The rules of document 01 on values, a file for each of its sections in its order, with (l) of document 02; the calls; what an exported call answers and leaves; which
+-- calls are refused; and what is promised of the checked print. `Given` is no rule: contracts inside this crate cite it.
 pub mod Print
 pub mod Typing
 pub mod Tab
@@ -12,4 +12,5 @@ pub mod Call
 pub mod Outcome
 pub mod Lists
 pub mod Refusals
+pub mod CheckedPrints
 pub mod Given

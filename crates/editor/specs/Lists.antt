@@ -5,7 +5,7 @@ use mathlib.Core.List.{List, [], _∷_, foldl}
 use Rattle.bytes.specs.Choice.{if_then_else_}
 use Rattle.bytes.specs.Answer.{isRefusal}
 use Rattle.grid.specs.Screen.{Screen, State}
-use Rattle.editor.specs.Call.{Call, apply, step}
+use Rattle.editor.specs.Call.{Call, afterCall, step}
 use Rattle.editor.specs.Outcome.{changing}
 
 -- the record that calls leave of the record l
@@ -21,7 +21,7 @@ accepted l (c ∷ cs) = if isRefusal (changing c l .number) then accepted (chang
 
 -- what they make of a screen
 unfoldable pub screenLeft : Screen → List Call → Screen
-screenLeft s cs = foldl (λ s c. apply c s) s cs
+screenLeft s cs = foldl (λ s c. afterCall c s) s cs
 
 -- what they make of what a record holds
 unfoldable pub steps : List Call → State → State

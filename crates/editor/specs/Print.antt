@@ -1,9 +1,9 @@
--- Document 01, "Printing".
+-- Document 01, "Printing", and of document 02, (l), what the checked print refuses.
 -- Assumes nothing.
 use Prim.Native.Nat.{ℕ, _+_, _-_}
 use mathlib.Core.Bool.{Bool, false, _&&_}
 use mathlib.Core.List.{List, [], _∷_}
-use lib.ListN.{set}
+use lib.ListN.{set, getD}
 use lib.Dec.{ltb, eqb}
 use Rattle.bytes.specs.Choice.{if_then_else_}
 use Rattle.grid.specs.Screen.{Screen, withRows, moveTo, rowAt, putCell, setFlag, scrolled, editable, blankRow, printable, isEmpty, trim}
@@ -63,3 +63,7 @@ print cr s (b ∷ bs) = print (eqb b 13) (printByte cr s b) bs
 -- no byte stands before the first of a call
 abbrev pub printBytes : Screen → List ℕ → Screen
 printBytes s bs = print false s bs
+
+-- document 02, (l): "an input that begins with 10 while that bit is set". The bit is the head's, and not the cr of a print, which begins with each call anew
+unfoldable pub splits : Screen → List ℕ → Bool
+splits s bs = eqb (getD bs 0 0) 10 && eqb (s .head .cr) 1

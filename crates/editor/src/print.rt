@@ -1,4 +1,4 @@
-// Printing: bytes written at the cursor, from row to row, and the step to the next row.
+// Printing: bytes written at the cursor, from row to row, and the step to the next row; and the bit of document 02, (l), that a print ended with 13.
 //
 // While a call prints, the head goes from hand to hand and the rows change in the record, whose own head stays as it was.
 use grid::head;
@@ -12,10 +12,10 @@ ghost use lib.ListN.{length, take};
 ghost use Rattle.bytes.specs.Choice.{if_then_else_};
 ghost use Rattle.grid.specs.Layout.{SIZE};
 ghost use Rattle.grid.specs.Screen.{isEmpty, isSpace, trim, setFlag};
-ghost use Rattle.grid.specs.Record.{rowOf, rowsOf, screenOf, Leaves};
+ghost use Rattle.grid.specs.Record.{rowOf, rowsOf, headOf, screenOf, Leaves};
 ghost use Rattle.grid.specs.Facts.{HeadFacts, Valid};
-ghost use Rattle.editor.specs.Print.{wrapped, nextRow, newline, putChar, printByte};
-ghost use Rattle.editor.specs.Call.{PrintBytes, apply};
+ghost use Rattle.editor.specs.Print.{wrapped, nextRow, newline, putChar, printByte, splits};
+ghost use Rattle.editor.specs.Call.{PrintBytes, apply, lastCr};
 
 fn not_space(c: u8) -> u8
     ensures { λ k. ⌜ (k ≡ (if isSpace c then 0 else 1)) × (k ≤ 1) ⌝ }
@@ -140,4 +140,29 @@ pub fn print_bytes(rec: &mut [u8], bytes: &[u8]) -> Head
         i += 1;
     }
     h
+}
+
+// The bit that a print of bytes leaves, where the record was rec before.
+pub fn cr_left(rec: &[u8], bytes: &[u8]) -> u8
+    requires { ⌜ length (now rec) ≡ SIZE ⌝ }
+    ensures { λ v. ⌜ v ≡ lastCr (headOf (now (rec .entry)) .cr) (now (bytes .entry)) ⌝ }
+{
+    let n = bytes.len();
+    if n == 0 {
+        let h = head::read_head(rec);
+        return h.cr;
+    }
+    if bytes[n - 1] == b'\r' { 1 } else { 0 }
+}
+
+// Do the bytes begin with 10 while the bit is set?
+pub fn splits(rec: &[u8], bytes: &[u8]) -> bool
+    requires { ⌜ length (now rec) ≡ SIZE ⌝ }
+    ensures { λ t. ⌜ t ≡ splits (screenOf (now (rec .entry))) (now (bytes .entry)) ⌝ }
+{
+    if bytes.len() == 0 {
+        return false;
+    }
+    let h = head::read_head(rec);
+    bytes[0] == b'\n' && h.cr == 1
 }

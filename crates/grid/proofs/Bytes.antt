@@ -9,7 +9,7 @@ use lib.ListN.{length, getD, take, drop, length-append, length-drop, List·getD-
 use lib.Seq.{take-at, take-append-le, drop-append-le, drop-append-add, getD-append-add, ext-getD}
 use borrow.Author.Tests.{lt-ltb}
 use Rattle.grid.specs.Layout.{SIZE, HEAD, PAIR, TOUCHED, FLAGS, CHARS, ATTRS, MASKS}
-use Rattle.grid.specs.Screen.{Row, State, noRow, rowAt, validRow, validScreen, withAttr}
+use Rattle.grid.specs.Screen.{Row, State, noRow, rowAt, validRow, validScreen}
 use Rattle.bytes.specs.Test.{every, isByte}
 use Rattle.bytes.specs.Part.{window}
 use Rattle.bytes.specs.Table.{tabulate}
@@ -17,10 +17,11 @@ use Rattle.grid.specs.Pair.{pairAt}
 use Rattle.grid.specs.Record.{rowOf, rowsOf, headOf, pairOf, touchedOf, screenOf, readState, flagBytes, blocks, charBytes, attrBytes, rowsBytes, frontBytes, stateBytes, frontb, validb, headAt, stampOf}
 use Rattle.grid.specs.Facts.{RowFacts, RowsFacts, ScreenFacts, StateFacts, Valid}
 use Rattle.bytes.proofs.Bools.{and-left, and-right, tests}
-use Rattle.values.proofs.AttrLaws.{attr-back, byte-back}
+use Rattle.values.proofs.AttrLaws.{byte-back}
 use Rattle.grid.proofs.Record.{rows-bytes, heads-eq}
 use Rattle.bytes.proofs.Tables.{length-tabulate, getD-tabulate}
 use Rattle.grid.proofs.Validity.{row-facts, screen-facts}
+use Rattle.grid.proofs.HeadLaws.{head-whole, bits-back}
 use Rattle.grid.proofs.PairLaws.{pair-whole, pair-again}
 use Rattle.bytes.proofs.NumberLaws.{isByte-lt, four-bytes, whole4}
 
@@ -130,8 +131,8 @@ module _ (t : State) (v : StateFacts t) where
       let r = rows-back front _ (t .screen .rows) refl (facts .rows) in
       let p = pair-whole (t .stamp .pair) (v .pair) in
       let m = whole4 (t .stamp .touched) (omega arith) in
-      let a = attr-back (t .screen .head .attr) (facts .head .foreground) (facts .head .background) in
-      λ i. record { screen = record { head = withAttr (t .screen .head) (a i); rows = r i }; stamp = record { pair = p i; touched = m i } }
+      let h = head-whole (t .screen .head) (facts .head) in
+      λ i. record { screen = record { head = h i; rows = r i }; stamp = record { pair = p i; touched = m i } }
 
   pub length-state : length (stateBytes t) ≡ SIZE
   unfolding stateBytes frontBytes
@@ -162,11 +163,12 @@ module _ (l : List ℕ) (v : Valid l) (b : every isByte l ≡ true) where
       let p = pair-again l PAIR b (omega (arith, v .size)) in
       let t = four-bytes l TOUCHED b (omega (arith, v .size)) in
       let a = byte-back (getD l (HEAD + 5) 0) (byte-at (HEAD + 5) (omega arith)) in
+      let bits = bits-back (getD l (HEAD + 3) 0) (v .screen .head .cr) in
       let r = rows-bytes l (v .size) in
       let high = sym (v .length-high) in
       let low = sym (v .length-low) in
       let version = sym (v .version) in
       (λ i.
-      (high i ∷ low i ∷ version i ∷ getD l HEAD 0 ∷ getD l (HEAD + 1) 0 ∷ getD l (HEAD + 2) 0 ∷ getD l (HEAD + 3) 0
+      (high i ∷ low i ∷ version i ∷ getD l HEAD 0 ∷ getD l (HEAD + 1) 0 ∷ getD l (HEAD + 2) 0 ∷ bits i
       ∷ getD l (HEAD + 4) 0 ∷ a i ∷ []) ++ p i ++ t i ++ r i)
       ∙ heads-eq FLAGS 0 l (omega (arith, v .size))

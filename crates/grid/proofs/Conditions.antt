@@ -45,13 +45,14 @@ head-conditions h f =
       row = f .row;
       col = f .col;
       insert = f .insert;
+      cr = f .cr;
       keys = f .keys;
       foreground = f .foreground;
       background = f .background;
     }
 
 pub conditions-head : (h : Head) → ValidHead h → HeadFacts h
-conditions-head h v = head-is h (v .width) (v .row) (v .col) (v .insert) (v .keys) (v .foreground) (v .background)
+conditions-head h v = head-is h (v .width) (v .row) (v .col) (v .insert) (v .cr) (v .keys) (v .foreground) (v .background)
 
 -- ---- 80 bytes from index a on, of which w are in use
 

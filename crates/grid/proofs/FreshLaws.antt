@@ -20,17 +20,17 @@ use Rattle.grid.proofs.Validity.{head-fits}
 use Rattle.grid.proofs.Keep.{new-head}
 use Rattle.grid.proofs.Record.{left-bytes}
 
-pub head-40 : (w : ℕ) → w ≡ 40 → _≡_ {A = Head} (record { width = 40; cursor = home; insert = 0; keys = 1; attr = normal }) (newHead w)
+pub head-40 : (w : ℕ) → w ≡ 40 → _≡_ {A = Head} (record { width = 40; cursor = home; insert = 0; cr = 0; keys = 1; attr = normal }) (newHead w)
 unfolding newHead
 head-40 w h =
     let e = picked {A = ℕ} (eqb w 40) 40 40 80 (eq-eqb w 40 h) refl in
-    λ i. record { width = e i; cursor = home; insert = 0; keys = 1; attr = normal }
+    λ i. record { width = e i; cursor = home; insert = 0; cr = 0; keys = 1; attr = normal }
 
-pub head-80 : (w : ℕ) → (w ≡ 40 → ⊥) → _≡_ {A = Head} (record { width = 80; cursor = home; insert = 0; keys = 1; attr = normal }) (newHead w)
+pub head-80 : (w : ℕ) → (w ≡ 40 → ⊥) → _≡_ {A = Head} (record { width = 80; cursor = home; insert = 0; cr = 0; keys = 1; attr = normal }) (newHead w)
 unfolding newHead
 head-80 w h =
     let e = skipped {A = ℕ} (eqb w 40) 80 40 80 (ne-eqb w 40 h) refl in
-    λ i. record { width = e i; cursor = home; insert = 0; keys = 1; attr = normal }
+    λ i. record { width = e i; cursor = home; insert = 0; cr = 0; keys = 1; attr = normal }
 
 pub new-width : (w : ℕ) (h : Head) → h ≡ newHead w → h .width ≤ 80
 new-width w h e = rw e (new-head w .width-to)

@@ -141,6 +141,7 @@ unfolding newHead
 new-head w =
     let widths = cases (λ (v : ℕ). (v ≡ 40) ⊎ (v ≡ 80)) (eqb w 40) 40 80 (λ e. inl refl) (λ e. inr refl) in
     head-is _ widths (omega (arith, editable-from 1)) (omega (arith, width-from _ widths)) (omega arith) (omega arith) (omega arith) (omega arith)
+    (omega arith)
 
 pub new-screen : (w : ℕ) → ScreenFacts (newScreen w)
 unfolding newScreen

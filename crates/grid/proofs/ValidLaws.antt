@@ -154,6 +154,10 @@ module _ (h : Head) where
   unfolding validHead
   insert-bad k = simp (lt-leb (h .insert) 1 k, Bool.and-false)
 
+  pub cr-bad : 1 < h .cr → validHead h ≡ false
+  unfolding validHead
+  cr-bad k = simp (lt-leb (h .cr) 1 k, Bool.and-false)
+
   pub keys-bad : 1 < h .keys → validHead h ≡ false
   unfolding validHead
   keys-bad k = simp (lt-leb (h .keys) 1 k, Bool.and-false)
@@ -166,11 +170,11 @@ module _ (h : Head) where
   unfolding validHead
   column-bad k = simp (le-ltb (h .cursor .col) (h .width) k, Bool.and-false)
 
-  pub head-rest : widthb (h .width) ≡ true → h .cursor .row < editable (h .keys) → h .cursor .col < h .width → h .insert ≤ 1 → h .keys ≤ 1
-      → validHead h ≡ validAttr (h .attr)
+  pub head-rest : widthb (h .width) ≡ true → h .cursor .row < editable (h .keys) → h .cursor .col < h .width → h .insert ≤ 1 → h .cr ≤ 1
+      → h .keys ≤ 1 → validHead h ≡ validAttr (h .attr)
   unfolding validHead
-  head-rest w r c i k =
-      rw (w, lt-ltb (h .cursor .row) (editable (h .keys)) r, lt-ltb (h .cursor .col) (h .width) c, le-leb (h .insert) 1 i, le-leb (h .keys) 1 k)
+  head-rest w r c i e k =
+      rw (w, lt-ltb (h .cursor .row) (editable (h .keys)) r, lt-ltb (h .cursor .col) (h .width) c, le-leb (h .insert) 1 i, le-leb (h .cr) 1 e, le-leb (h .keys) 1 k)
 
 -- ---- the record
 
@@ -279,6 +283,9 @@ module _ (h : Head) where
   pub insert-found : 1 < h .insert → false ≡ validHead h
   insert-found k = sym (insert-bad h k)
 
+  pub cr-found : 1 < h .cr → false ≡ validHead h
+  cr-found k = sym (cr-bad h k)
+
   pub keys-found : 1 < h .keys → false ≡ validHead h
   keys-found k = sym (keys-bad h k)
 
@@ -289,8 +296,8 @@ module _ (h : Head) where
   column-found k = sym (column-bad h k)
 
   pub head-end : (t u : Bool) (e : ℕ) → t ≡ widthb (h .width) → not t ≡ false → e ≡ editable (h .keys) → h .cursor .row < e → h .cursor .col < h .width
-      → h .insert ≤ 1 → h .keys ≤ 1 → u ≡ validAttr (h .attr) → u ≡ validHead h
-  head-end t u e it nt is r c i k iu = iu ∙ sym (head-rest h (sym it ∙ not-false t nt) (omega arith) c i k)
+      → h .insert ≤ 1 → h .cr ≤ 1 → h .keys ≤ 1 → u ≡ validAttr (h .attr) → u ≡ validHead h
+  head-end t u e it nt is r c i d k iu = iu ∙ sym (head-rest h (sym it ∙ not-false t nt) (omega arith) c i d k)
 
 -- ---- valid::front_ok
 

@@ -7,7 +7,7 @@ use mathlib.Core.List.{List}
 use mathlib.Core.Logic.{_⊎_}
 use native.Mathlib.Omega.{arith}
 use borrow.Author.Tests.{ltb-true, leb-true, eqb-true, lt-ltb, le-leb, eq-eqb}
-use Rattle.grid.specs.Screen.{Row, Screen, editable, validAttr, validHead, validRow, validScreen}
+use Rattle.grid.specs.Screen.{Row, Screen, withCr, editable, validAttr, validHead, validRow, validScreen}
 use Rattle.grid.specs.Record.{screenOf, frontb, validb}
 use Rattle.grid.specs.Facts.{HeadFacts, HeadFits, RowFacts, ScreenFacts, Valid}
 use Rattle.grid.specs.declared.head.Head.{Head}
@@ -28,13 +28,14 @@ editable-to k = either (λ (e : ℕ). e ≤ 25) _ _ _ (omega arith) (omega arith
 
 -- what is left to know of a head: the rest of `HeadFacts` follows
 pub head-is : (h : Head) → (h .width ≡ 40) ⊎ (h .width ≡ 80) → h .cursor .row < editable (h .keys) → h .cursor .col < h .width → h .insert ≤ 1
-    → h .keys ≤ 1 → h .attr .foreground < 16 → h .attr .background < 16 → HeadFacts h
-head-is h w r c i k f b =
+    → h .cr ≤ 1 → h .keys ≤ 1 → h .attr .foreground < 16 → h .attr .background < 16 → HeadFacts h
+head-is h w r c i e k f b =
     record {
       widths = w;
       width-from = width-from (h .width) w;
       width-to = width-to (h .width) w;
       insert = i;
+      cr = e;
       keys = k;
       edit-from = editable-from (h .keys);
       edit-to = editable-to (h .keys);
@@ -44,12 +45,15 @@ head-is h w r c i k f b =
       background = b;
     }
 
+pub with-cr-facts : (h : Head) (v : ℕ) → HeadFacts h → v ≤ 1 → HeadFacts (withCr h v)
+with-cr-facts h v f e = head-is _ (f .widths) (f .row) (f .col) (f .insert) e (f .keys) (f .foreground) (f .background)
+
 pub head-facts : (h : Head) → validHead h ≡ true → HeadFacts h
 unfolding validHead validAttr
 head-facts h v =
     head-is h (width-cases (h .width) (search (and-left, and-right) depth 8)) (ltb-true _ _ (search (and-left, and-right) depth 8))
     (ltb-true _ _ (search (and-left, and-right) depth 8)) (leb-true _ _ (search (and-left, and-right) depth 8))
-    (leb-true _ _ (search (and-left, and-right) depth 8)) (ltb-true _ _ (search (and-left, and-right) depth 8))
+    (leb-true _ _ (search (and-left, and-right) depth 8)) (leb-true _ _ (search (and-left, and-right) depth 8)) (ltb-true _ _ (search (and-left, and-right) depth 8))
     (ltb-true _ _ (search (and-left, and-right) depth 8))
 
 pub head-valid : (h : Head) → HeadFacts h → validHead h ≡ true

@@ -12,12 +12,14 @@ use Rattle.grid.specs.Screen.{editable}
 use Rattle.grid.specs.Record.{headOf, touchedOf}
 use Rattle.grid.specs.declared.head.Head.{Head}
 
--- "cursor row below E, column below W, .. switches 0 or 1"; an attribute is two nibbles, so any byte
+-- "cursor row below E, column below W, .. switches 0 or 1", and by document 02, (l), byte 6 "now 0 to 3"; an attribute is two nibbles, so any byte
 pub record ValidHead (h : Head) : Type 0 where
   pub width : isWidth (h .width)
   pub row : h .cursor .row < editable (h .keys)
   pub col : h .cursor .col < h .width
   pub insert : h .insert ≤ 1
+  -- what stands above the lowest bit of byte 6, so that at most 1 says 0 to 3
+  pub cr : h .cr ≤ 1
   pub keys : h .keys ≤ 1
   pub foreground : h .attr .foreground < 16
   pub background : h .attr .background < 16

@@ -20,6 +20,7 @@ pub record HeadFacts (h : Head) : Type 0 where
   pub width-from : 40 ≤ h .width
   pub width-to : h .width ≤ 80
   pub insert : h .insert ≤ 1
+  pub cr : h .cr ≤ 1
   pub keys : h .keys ≤ 1
   pub edit-from : 24 ≤ editable (h .keys)
   pub edit-to : editable (h .keys) ≤ 25

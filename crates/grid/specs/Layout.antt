@@ -9,7 +9,7 @@ SIZE = 4046
 abbrev pub VERSION : ℕ
 VERSION = 2
 
--- width, cursor row, cursor column, insert, keys on, attribute
+-- width, cursor row, cursor column, insert and cr, keys on, attribute
 abbrev pub HEAD : ℕ
 HEAD = 3
 

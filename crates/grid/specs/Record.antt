@@ -35,7 +35,8 @@ unfoldable pub headAt : List ℕ → ℕ → Head
 headAt l i = record {
   width = getD l i 0;
   cursor = at (getD l (i + 1) 0) (getD l (i + 2) 0);
-  insert = getD l (i + 3) 0;
+  insert = getD l (i + 3) 0 % 2;
+  cr = getD l (i + 3) 0 / 2;
   keys = getD l (i + 4) 0;
   attr = attrOf (getD l (i + 5) 0);
 }
@@ -63,8 +64,12 @@ readState l = record { screen = screenOf l; stamp = stampOf l }
 
 -- ---- writing
 
+-- document 02, (l): insert in the lowest bit, cr in the next one
+unfoldable pub bitsByte : ℕ → ℕ → ℕ
+bitsByte insert cr = cr % 2 * 2 + insert % 2
+
 abbrev pub headBytes : Head → List ℕ
-headBytes h = h .width ∷ h .cursor .row ∷ h .cursor .col ∷ h .insert ∷ h .keys ∷ byteOf (h .attr) ∷ []
+headBytes h = h .width ∷ h .cursor .row ∷ h .cursor .col ∷ bitsByte (h .insert) (h .cr) ∷ h .keys ∷ byteOf (h .attr) ∷ []
 
 -- what stands before the rows
 unfoldable pub frontBytes : Head → Stamp → List ℕ

@@ -1,5 +1,5 @@
 -- Document 01, "The cell grid", as values: rows, the screen, what a record holds, the layout as one test, and the rows that differ.
--- `Head` and `Stamp` are the structs of `src/head.rt`.
+-- `Head` and `Stamp` are the structs of `src/head.rt`; the head's `cr` is the bit of document 02, (l): a print ended with 13.
 -- Assumes nothing.
 use Prim.Native.Nat.{ℕ, _+_, _-_, _*_}
 use mathlib.Core.Bool.{Bool, true, false, not, _&&_, _||_}
@@ -36,19 +36,22 @@ pub record State : Type 0 where
 -- ---- the head with one field changed
 
 abbrev pub withWidth : Head → ℕ → Head
-withWidth h w = record { width = w; cursor = h .cursor; insert = h .insert; keys = h .keys; attr = h .attr }
+withWidth h w = record { width = w; cursor = h .cursor; insert = h .insert; cr = h .cr; keys = h .keys; attr = h .attr }
 
 abbrev pub withCursor : Head → Cursor → Head
-withCursor h c = record { width = h .width; cursor = c; insert = h .insert; keys = h .keys; attr = h .attr }
+withCursor h c = record { width = h .width; cursor = c; insert = h .insert; cr = h .cr; keys = h .keys; attr = h .attr }
 
 abbrev pub withInsert : Head → ℕ → Head
-withInsert h v = record { width = h .width; cursor = h .cursor; insert = v; keys = h .keys; attr = h .attr }
+withInsert h v = record { width = h .width; cursor = h .cursor; insert = v; cr = h .cr; keys = h .keys; attr = h .attr }
+
+abbrev pub withCr : Head → ℕ → Head
+withCr h v = record { width = h .width; cursor = h .cursor; insert = h .insert; cr = v; keys = h .keys; attr = h .attr }
 
 abbrev pub withKeys : Head → ℕ → Head
-withKeys h v = record { width = h .width; cursor = h .cursor; insert = h .insert; keys = v; attr = h .attr }
+withKeys h v = record { width = h .width; cursor = h .cursor; insert = h .insert; cr = h .cr; keys = v; attr = h .attr }
 
 abbrev pub withAttr : Head → Attr → Head
-withAttr h a = record { width = h .width; cursor = h .cursor; insert = h .insert; keys = h .keys; attr = a }
+withAttr h a = record { width = h .width; cursor = h .cursor; insert = h .insert; cr = h .cr; keys = h .keys; attr = a }
 
 -- E, the editable rows: 24 with keys on, else 25
 unfoldable pub editable : ℕ → ℕ
@@ -97,13 +100,17 @@ withRows s rows = record { head = s .head; rows = rows }
 abbrev pub withHead : Screen → Head → Screen
 withHead s h = record { head = h; rows = s .rows }
 
+-- and with another bit of document 02, (l)
+abbrev pub withBit : Screen → ℕ → Screen
+withBit s v = withHead s (withCr (s .head) v)
+
 unfoldable pub moveTo : Screen → Cursor → Screen
 moveTo s c = withHead s (withCursor (s .head) c)
 
 -- ---- a new screen: 40 gives 40, all else 80; in any sitting, at serial 0
 
 unfoldable pub newHead : ℕ → Head
-newHead w = record { width = if eqb w 40 then 40 else 80; cursor = home; insert = 0; keys = 1; attr = normal }
+newHead w = record { width = if eqb w 40 then 40 else 80; cursor = home; insert = 0; cr = 0; keys = 1; attr = normal }
 
 unfoldable pub newScreen : ℕ → Screen
 newScreen w = record { head = newHead w; rows = replicate 25 (blankRow (newHead w .width) normal) }
@@ -140,8 +147,8 @@ validAttr a = ltb (a .foreground) 16 && ltb (a .background) 16
 
 unfoldable pub validHead : Head → Bool
 validHead h =
-    widthb (h .width) && ltb (h .cursor .row) (editable (h .keys)) && ltb (h .cursor .col) (h .width) && leb (h .insert) 1 && leb (h .keys) 1
-    && validAttr (h .attr)
+    widthb (h .width) && ltb (h .cursor .row) (editable (h .keys)) && ltb (h .cursor .col) (h .width) && leb (h .insert) 1 && leb (h .cr) 1
+    && leb (h .keys) 1 && validAttr (h .attr)
 
 unfoldable pub validRow : ℕ → Row → Bool
 validRow w x =

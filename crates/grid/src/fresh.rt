@@ -20,6 +20,7 @@ fn new_head(width: u32) -> head::Head
         width: w,
         cursor: Cursor::HOME,
         insert: 0,
+        cr: 0,
         keys: 1,
         attr: Attr::NORMAL,
     }

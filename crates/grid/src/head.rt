@@ -15,14 +15,16 @@ ghost use mathlib.Core.List.{_++_};
 ghost use lib.ListN.{length, drop};
 ghost use Rattle.bytes.specs.Part.{write};
 ghost use Rattle.grid.specs.Layout.{SIZE, FLAGS};
-ghost use Rattle.grid.specs.Screen.{editable, withWidth, withCursor, withInsert, withKeys, withAttr};
+ghost use Rattle.grid.specs.Screen.{editable, withWidth, withCursor, withInsert, withCr, withKeys, withAttr};
 ghost use Rattle.grid.specs.Facts.{HeadFits};
-ghost use Rattle.grid.specs.Record.{headAt, headOf, headBytes, pairOf, touchedOf, stampOf, frontBytes};
+ghost use Rattle.grid.specs.Record.{headAt, headOf, bitsByte, headBytes, pairOf, touchedOf, stampOf, frontBytes};
 
 pub struct Head {
     pub width: usize,
     pub cursor: Cursor,
     pub insert: u8,
+    // Document 02, (l): that a print ended with 13; 0 or 1 in a valid record.
+    pub cr: u8,
     pub keys: u8,
     pub attr: Attr,
 }
@@ -43,6 +45,7 @@ impl Head {
             width: width,
             cursor: cursor,
             insert: self.insert,
+            cr: self.cr,
             keys: self.keys,
             attr: attr,
         }
@@ -56,6 +59,7 @@ impl Head {
             width: self.width,
             cursor: cursor,
             insert: self.insert,
+            cr: self.cr,
             keys: self.keys,
             attr: attr,
         }
@@ -70,6 +74,22 @@ impl Head {
             width: self.width,
             cursor: cursor,
             insert: insert,
+            cr: self.cr,
+            keys: self.keys,
+            attr: attr,
+        }
+    }
+
+    pub fn with_cr(self, cr: u8) -> Head
+        ensures { λ g. ⌜ g ≡ withCr self cr ⌝ }
+    {
+        let cursor = self.cursor;
+        let attr = self.attr;
+        Head {
+            width: self.width,
+            cursor: cursor,
+            insert: self.insert,
+            cr: cr,
             keys: self.keys,
             attr: attr,
         }
@@ -84,6 +104,7 @@ impl Head {
             width: self.width,
             cursor: cursor,
             insert: self.insert,
+            cr: self.cr,
             keys: keys,
             attr: attr,
         }
@@ -97,6 +118,7 @@ impl Head {
             width: self.width,
             cursor: cursor,
             insert: self.insert,
+            cr: self.cr,
             keys: self.keys,
             attr: attr,
         }
@@ -115,16 +137,25 @@ pub fn head_at(src: &[u8], at: usize) -> Head
     requires { ⌜ at + 6 ≤ length (now src) ⌝ }
     ensures { λ h. ⌜ h ≡ headAt (now (src .entry)) at ⌝ }
 {
+    let bits = src[at + 3];
     Head {
         width: number::wide(src[at]),
         cursor: Cursor {
             row: number::wide(src[at + 1]),
             col: number::wide(src[at + 2]),
         },
-        insert: src[at + 3],
+        insert: bits & 1,
+        cr: bits >> 1,
         keys: src[at + 4],
         attr: Attr::new(src[at + 5]),
     }
+}
+
+// Insert in the lowest bit, cr in the next one.
+fn bits_byte(insert: u8, cr: u8) -> u8
+    ensures { λ b. ⌜ b ≡ bitsByte insert cr ⌝ }
+{
+    ((cr & 1) << 1) | (insert & 1)
 }
 
 // Writes the head h there.
@@ -134,10 +165,11 @@ pub fn put_head(dst: &mut [u8], at: usize, h: Head)
 {
     let attr = h.attr;
     let byte = attr.byte();
+    let bits = bits_byte(h.insert, h.cr);
     dst[at] = h.width as u8;
     dst[at + 1] = h.cursor.row as u8;
     dst[at + 2] = h.cursor.col as u8;
-    dst[at + 3] = h.insert;
+    dst[at + 3] = bits;
     dst[at + 4] = h.keys;
     dst[at + 5] = byte;
 }

@@ -8,7 +8,7 @@ pub const SIZE: usize = 4046;
 
 pub const VERSION: u8 = 2;
 
-// Width, cursor row, cursor column, insert, keys on, attribute.
+// Width, cursor row, cursor column, insert and cr, keys on, attribute.
 pub const HEAD: usize = 3;
 
 // Serial and sitting.

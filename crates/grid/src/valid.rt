@@ -128,6 +128,9 @@ pub fn head_ok(h: head::Head) -> bool
     if h.insert > 1 {
         return false;
     }
+    if h.cr > 1 {
+        return false;
+    }
     if h.keys > 1 {
         return false;
     }

@@ -21,6 +21,6 @@ valid-kept =
     record {
       facts = λ s f. f;
       move = λ s c f r k.
-          record { head = head-is _ (f .head .widths) r k (f .head .insert) (f .head .keys) (f .head .foreground) (f .head .background); rows = f .rows };
+          record { head = head-is _ (f .head .widths) r k (f .head .insert) (f .head .cr) (f .head .keys) (f .head .foreground) (f .head .background); rows = f .rows };
       edit = λ s rows f g. record { head = f .head; rows = g .rows };
     }

@@ -1,4 +1,4 @@
--- Document 01, "Examples": the one list of those marked *, and one of document 02, (c). Those of the screen are on values, those of the mirror are on the
+-- Document 01, "Examples": the one list of those marked *, one of document 02, (c), and three of (l). Those of the screen are on values, those of the mirror are on the
 -- bytes that arrive and that `arrival` leaves. `proofs/Checked.antt` has that each holds, by computing it.
 -- Assumes nothing.
 use Prim.Native.Nat.{ℕ}
@@ -13,7 +13,7 @@ use Rattle.grid.specs.Record.{stateBytes, pairOf}
 use Rattle.line.specs.Line.{rowText}
 use Rattle.editor.specs.Call.{Call, step}
 use Rattle.editor.specs.Lists.{steps}
-use Rattle.editor.specs.Call.Call.{PrintBytes, TypeChar, Backspace, MoveLeft, WordRight, SetCursor, SetInsert}
+use Rattle.editor.specs.Call.Call.{PrintBytes, PrintChecked, TypeChar, Backspace, MoveLeft, WordRight, SetCursor, SetInsert}
 use Rattle.report.specs.declared.kind.Kind.the-variants.{Step}
 use Rattle.report.specs.Report.{reported}
 use Rattle.mirror.specs.Layout.{NEWEST, RECORD}
@@ -34,6 +34,9 @@ cursor t = t .screen .head .cursor .row ∷ t .screen .head .cursor .col ∷ []
 
 unfoldable pub touched : State → List ℕ
 touched t = t .stamp .touched ∷ []
+
+unfoldable pub cr : State → List ℕ
+cr t = t .screen .head .cr ∷ []
 
 unfoldable pub flag : ℕ → State → List ℕ
 flag r t = rowAt (t .screen .rows) r .flag ∷ []
@@ -83,6 +86,10 @@ examples =
     ∷ after 80 (SetCursor 23 79 ∷ PrintBytes (90 ∷ []) ∷ []) (both (cell 22 79) (both (flag 22) cursor)) (90 ∷ 1 ∷ 23 ∷ 0 ∷ [])
     -- blank screen, `word_right`: (23,79)
     ∷ after 80 (WordRight ∷ []) cursor (23 ∷ 79 ∷ [])
+    -- (l): the bit is set by a print whose last byte is 13, and left by one that takes none; an ignored byte is taken too; every other call clears it
+    ∷ after 80 (PrintBytes (A ∷ 13 ∷ []) ∷ PrintChecked [] ∷ []) (both cursor cr) (1 ∷ 0 ∷ 1 ∷ [])
+    ∷ after 80 (PrintBytes (13 ∷ 7 ∷ []) ∷ []) (both cursor cr) (1 ∷ 0 ∷ 0 ∷ [])
+    ∷ after 80 (PrintChecked (13 ∷ []) ∷ MoveLeft ∷ []) (both cursor cr) (0 ∷ 79 ∷ 0 ∷ [])
     -- steps 1, 3, 2, 3 arrive: (m, n) is (1,1), (1,3), (2,3), (3,3); and the answer is 1 if that is level, else 0
     ∷ arrive 0 (TypeChar A ∷ PrintBytes (13 ∷ 66 ∷ []) ∷ Backspace ∷ []) serial ((0, 1) ∷ (0, 3) ∷ (0, 2) ∷ (0, 3) ∷ [])
     (1 ∷ 1 ∷ 1 ∷ 1 ∷ 3 ∷ 0 ∷ 2 ∷ 3 ∷ 0 ∷ 3 ∷ 3 ∷ 1 ∷ [])

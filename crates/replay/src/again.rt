@@ -28,6 +28,7 @@ fn edit(tag: u8, ch: u32, rec: &mut [u8], input: &[u8], out: &mut [u8]) -> u32 {
         8 => lines::ctrl_enter(rec),
         9 => lines::take_logical_line(rec, out),
         10 => lines::break_line(rec),
+        25 => print::print_checked(rec, input),
         _ => NO_CALL,
     }
 }
@@ -66,7 +67,7 @@ pub fn call(head: &[u8], input: &[u8], rec: &mut [u8], out: &mut [u8]) -> u32
     let tag = head[entry::TAG];
     let first = four_at(head, entry::FIRST);
     match tag {
-        1..=10 => edit(tag, first, rec, input, out),
+        1..=10 | 25 => edit(tag, first, rec, input, out),
         11..=18 => move_cursor(tag, rec),
         _ => set_up(tag, first, four_at(head, entry::SECOND), rec),
     }

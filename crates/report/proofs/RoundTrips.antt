@@ -13,7 +13,8 @@ use Rattle.bytes.specs.Part.{window}
 use Rattle.bytes.specs.Test.{every, isByte}
 use Rattle.bytes.proofs.Bools.{and-left, and-right, tests}
 use Rattle.bytes.proofs.NumberLaws.{whole4, whole2, isByte-lt, two-back, four-bytes}
-use Rattle.values.proofs.AttrLaws.{attr-back, byte-back}
+use Rattle.values.proofs.AttrLaws.{byte-back}
+use Rattle.grid.proofs.HeadLaws.{head-whole, bits-back}
 use Rattle.grid.specs.Layout.{MASKS}
 use Rattle.grid.specs.Facts.{PairFits}
 use Rattle.grid.specs.Screen.{Row, validHead, validRow}
@@ -78,12 +79,11 @@ module _ (r : Report) (f : ReportFacts r) where
   unfolding readFront reportBytes reportFront headAt pairAt
   front-back =
       let h = head-facts (r .front .head) (f .head) in
-      let a = attr-back (r .front .head .attr) (h .foreground) (h .background) in
       λ i. record {
         kind = kind-back (r .front .kind) i;
         pair = pair-whole (r .front .pair) (f .pair) i;
         mask = whole4 (r .front .mask) (omega (arith, small)) i;
-        head = record { width = r .front .head .width; cursor = r .front .head .cursor; insert = r .front .head .insert; keys = r .front .head .keys; attr = a i };
+        head = head-whole (r .front .head) h i;
       }
 
   rows-back : drop ROWS (reportBytes r) ≡ carriedBytes (r .rows)
@@ -143,11 +143,12 @@ report-bytes-back b p q =
     ap bytes2 (length-from b ∙ sym (v .field ∙ v .size)) ∙ two-back (getD b 0 0) (getD b 1 0) (byte 0 (omega (arith, v .size))) (byte 1 (omega (arith, v .size))) in
     let s = pair-again b REPORT-PAIR q (omega (arith, v .size)) in
     let m = four-bytes b MASK q (omega (arith, v .size)) in
+    let bits = bits-back (getD b (HEAD + 3) 0) (v .head .cr) in
     let a = byte-back (getD b (HEAD + 5) 0) (byte (HEAD + 5) (omega (arith, v .size))) in
     let r : carriedBytes (readReport b .rows) ≡ drop ROWS b =
     ap carriedBytes (rows-from b) ∙ carried-again (ones (fourAt b MASK)) (drop ROWS b) (omega (arith, length-drop ROWS b, v .size)) in
     let k = kind-told b p in
     (λ i.
     (n i ++ (sym (v .version) i ∷ sym k i ∷ []) ++ s i ++ m i
-    ++ (getD b HEAD 0 ∷ getD b (HEAD + 1) 0 ∷ getD b (HEAD + 2) 0 ∷ getD b (HEAD + 3) 0 ∷ getD b (HEAD + 4) 0 ∷ a i ∷ [])) ++ r i)
+    ++ (getD b HEAD 0 ∷ getD b (HEAD + 1) 0 ∷ getD b (HEAD + 2) 0 ∷ bits i ∷ getD b (HEAD + 4) 0 ∷ a i ∷ [])) ++ r i)
     ∙ heads-eq ROWS 0 b (omega (arith, v .size))

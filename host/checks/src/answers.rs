@@ -77,12 +77,12 @@ fn record_list(list: &List) -> (Vec<u8>, usize) {
     let mut calls = 1;
     for step in &list.steps {
         let Step::Call(call) = step else { continue };
-        if judge::in_range(call, width(&rec)) {
-            let text = screen.change(call);
-            rec = oracle::record_after(&rec, &screen);
-            bytes.extend(entry(call, text.len() as u32, &text, &rec));
+        if let Some(k) = judge::of_arguments(call, &rec) {
+            bytes.extend(entry(call, judge::refused(k), &[], &rec));
         } else {
-            bytes.extend(entry(call, judge::refused(3), &[], &rec));
+            let text = screen.change(call);
+            rec = oracle::record_after(&rec, call, &screen);
+            bytes.extend(entry(call, text.len() as u32, &text, &rec));
         }
         calls += 1;
     }

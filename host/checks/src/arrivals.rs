@@ -28,7 +28,7 @@ fn unlike(width: u32) -> Vec<u8> {
     let mut rec = sample(width);
     set_touched(&mut rec, 0);
     (rec[ROW_AT], rec[COLUMN_AT], rec[ATTR_AT]) = (9, 17, 0x74);
-    rec[INSERT_AT] ^= 1;
+    rec[BITS_AT] ^= ALL_BITS;
     rec[KEYS_AT] ^= 1;
     for row in 0..ROWS {
         let other = 1 - flag(&rec, row);

@@ -104,6 +104,8 @@ calls! {
 
     PrintBytes(bytes: Vec<u8> = b"WARD 7\r\nBED 12".to_vec())
                                         => screen_print_bytes(rec, bytes),       Changing, tag 1;
+    PrintChecked(bytes: Vec<u8> = b"WARD 7\r\nBED 12\r".to_vec())
+                                        => screen_print_checked(rec, bytes),     Changing, tag 25;
     TypeChar(ch: u32 = 81)              => screen_type_char(rec, *ch),           Changing, tag 2;
     Backspace                           => screen_backspace(rec),                Changing, tag 3;
     DeleteChar                          => screen_delete_char(rec),              Changing, tag 4;

@@ -1,6 +1,6 @@
-//! The corners of document 01's rules that a run must have met: each is counted, and a corner that was never met fails the run.
+//! The corners of the documents' rules that a run must have met: each is counted, and a corner that was never met fails the run.
 //! What is read from a record here only counts; nothing is judged by it.
-use crate::call::Call;
+use crate::call::{Call, Kind};
 use crate::layout::*;
 
 #[derive(Clone, Copy)]
@@ -19,11 +19,17 @@ pub enum Corner {
     Ends133,
     Ends160,
     Row24Flagged,
+    CrLeft,
+    CrCleared,
+    CrBeforeIgnored,
+    CrBeforeInsert,
+    SplitUnchecked,
+    SplitRefused,
 }
 
 use Corner::*;
 
-const NAMES: [(Corner, &str); 14] = [
+const NAMES: [(Corner, &str); 20] = [
     (LastRowFlagged, "row E-1 flagged"),
     (DroppedAfter, "splice dropping rows after"),
     (DroppedBefore, "splice dropping rows before"),
@@ -38,6 +44,12 @@ const NAMES: [(Corner, &str); 14] = [
     (Ends133, "133 at a row's end, snapshot"),
     (Ends160, "160 at a row's end, snapshot"),
     (Row24Flagged, "row 24 flagged, keys on"),
+    (CrLeft, "after 13: a print of no bytes"),
+    (CrCleared, "after 13: a call that is no print"),
+    (CrBeforeIgnored, "after 13: a print that ends with 7"),
+    (CrBeforeInsert, "after 13: a character with insert on"),
+    (SplitUnchecked, "after 13: an unchecked print of 10"),
+    (SplitRefused, "after 13: a checked print of 10, refused"),
 ];
 
 #[derive(Clone, Default)]
@@ -62,11 +74,13 @@ impl Corners {
                     met(DroppedBefore, splice.dropped_before > 0);
                     met(WidthDividesLength, splice.width_divides);
                 }
-                let tab = *call == Call::Tab && rec[INSERT_AT] == 1;
+                let tab = *call == Call::Tab && inserting(rec);
                 met(TabStopped, tab && line.length + (8 - cursor(rec).1 % 8) > LINE);
             }
             Call::TakeLogicalLine => met(BlankExtension, is_blank_extension(rec)),
-            Call::PrintBytes(bytes) => met(NewlineOnlyClears, matches!(bytes.first(), Some(10 | 13)) && newline_only_clears(rec)),
+            Call::PrintBytes(bytes) | Call::PrintChecked(bytes) => {
+                met(NewlineOnlyClears, matches!(bytes.first(), Some(10 | 13)) && newline_only_clears(rec));
+            }
             Call::CtrlEnter => {
                 let joined = joined_length(rec);
                 met(CtrlEnterHeld, joined > Some(LINE));
@@ -76,6 +90,14 @@ impl Corners {
         }
         met(LastRowFlagged, flagged(rec, editable(rec) - 1));
         met(Row24Flagged, rec[KEYS_AT] == 1 && flagged(rec, 24));
+        if let Some(corner) = after_cr(call, rec) {
+            met(corner, true);
+        }
+    }
+
+    /// Counts the corner that a refused call is.
+    pub fn count_refused(&mut self, number: u32) {
+        self.0[SplitRefused as usize] += (number == 13) as u64;
     }
 
     pub fn add(&mut self, other: &Corners) {
@@ -85,6 +107,18 @@ impl Corners {
     /// Each corner's name and count.
     pub fn named(&self) -> impl Iterator<Item = (&'static str, u64)> + '_ {
         NAMES.iter().map(|&(corner, name)| (name, self.0[corner as usize]))
+    }
+}
+
+/// What an accepted changing call is to a record on which a print ended with 13.
+fn after_cr(call: &Call, rec: &[u8]) -> Option<Corner> {
+    match call {
+        _ if !ended_in_cr(rec) || call.kind() != Kind::Changing => None,
+        Call::PrintBytes(bytes) | Call::PrintChecked(bytes) if bytes.is_empty() => Some(CrLeft),
+        Call::PrintBytes(bytes) if bytes[0] == 10 => Some(SplitUnchecked),
+        Call::PrintBytes(bytes) | Call::PrintChecked(bytes) => bytes.ends_with(&[7]).then_some(CrBeforeIgnored),
+        Call::TypeChar(_) if inserting(rec) => Some(CrBeforeInsert),
+        _ => Some(CrCleared),
     }
 }
 
@@ -140,8 +174,8 @@ impl Line {
         let (n, i) = (self.length, self.index);
         match call {
             Call::TypeChar(ch) if *ch < 32 && *ch != 27 => None,
-            Call::Tab if rec[INSERT_AT] == 0 => None,
-            Call::TypeChar(_) | Call::Tab if rec[INSERT_AT] == 0 && i < n => Some(self.spliced(n, i + 1, rec)),
+            Call::Tab if !inserting(rec) => None,
+            Call::TypeChar(_) | Call::Tab if !inserting(rec) && i < n => Some(self.spliced(n, i + 1, rec)),
             Call::TypeChar(_) | Call::Tab if n < LINE => Some(self.spliced(n + 1, i + 1, rec)),
             Call::Backspace if cursor(rec).1 > 0 => Some(self.spliced(n - 1, i - 1, rec)),
             Call::Backspace | Call::DeleteChar if i < n => Some(self.spliced(n - 1, i, rec)),

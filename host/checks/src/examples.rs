@@ -73,7 +73,7 @@ fn play(example: &Example, tally: &mut Tally) -> Result<(), String> {
         tally.count(call, &ours, want.answer);
         call.make(&mut ours, &mut []);
         screen.change(call);
-        rusts = oracle::record_after(&rusts, &screen);
+        rusts = oracle::record_after(&rusts, call, &screen);
     }
     check(&example.says, &ours, "the archive")?;
     check(&example.says, &rusts, "the Rust")

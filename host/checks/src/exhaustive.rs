@@ -11,7 +11,7 @@ fn after(width: u32, calls: &[Call]) -> Vec<u8> {
     let mut rec = oracle::new_record(width, 0);
     for call in calls {
         screen.change(call);
-        rec = oracle::record_after(&rec, &screen);
+        rec = oracle::record_after(&rec, call, &screen);
     }
     rec
 }
@@ -24,7 +24,7 @@ fn print(ch: u8, n: usize) -> Call {
 type Scene = fn(usize) -> Vec<Call>;
 
 /// Lists that lead to telling screens. Each is used at both widths.
-const SCENES: [Scene; 14] = [
+const SCENES: [Scene; 15] = [
     |_| vec![],
     text_in_every_row,
     |_| vec![print(b'L', 255)],
@@ -39,6 +39,7 @@ const SCENES: [Scene; 14] = [
     flag_on_row_24,
     joined_rows,
     |w| vec![Call::SetKeysOn(0), Call::SetInsert(1), print(b'W', 25 * w - 1)],
+    |w| vec![Call::SetInsert(1), print(b'L', w), Call::PrintChecked(b"WARD 7\r".to_vec())],
 ];
 
 fn text_in_every_row(_: usize) -> Vec<Call> {
@@ -89,6 +90,7 @@ fn calls_from_every_place() -> Vec<Call> {
     calls.extend([Call::TypeChar(b' ' as u32), Call::TypeChar(7), Call::SetKeysOn(1), Call::SetInsert(0)]);
     let prints: [&[u8]; 6] = [b"\r", b"\n", b"\r\n", b"\n\r", b"Z", b"ZY\rX\n"];
     calls.extend(prints.map(|bytes| Call::PrintBytes(bytes.to_vec())));
+    calls.extend(prints.map(|bytes| Call::PrintChecked(bytes.to_vec())));
     calls
 }
 
@@ -99,6 +101,8 @@ pub fn every_place(tally: &mut Tally) -> Result<(), String> {
             let mut rec = after(width, &scene(width as usize));
             for (row, col) in (0..editable(&rec)).flat_map(|row| (0..width as usize).map(move |col| (row, col))) {
                 (rec[ROW_AT], rec[COLUMN_AT]) = (row as u8, col as u8);
+                // at every second place a print has ended with 13
+                set_ended_in_cr(&mut rec, (row + col) % 2 == 1);
                 try_each(&calls, &rec, tally).map_err(|found| format!("scene {number}, width {width}, cursor ({row}, {col}): {found}"))?;
             }
         }
@@ -159,8 +163,9 @@ pub fn every_argument(tally: &mut Tally) -> Result<(), String> {
     for scene in SCENES {
         for width in [80, 40] {
             let mut rec = after(width, &scene(width as usize));
-            for (row, col) in [(0, 0), (5, 17), (editable(&rec) - 1, width as usize - 1)] {
+            for ((row, col), after_cr) in [((0, 0), true), ((5, 17), false), ((editable(&rec) - 1, width as usize - 1), true)] {
                 (rec[ROW_AT], rec[COLUMN_AT]) = (row as u8, col as u8);
+                set_ended_in_cr(&mut rec, after_cr);
                 try_each(&calls, &rec, tally)?;
             }
         }
@@ -175,13 +180,13 @@ fn calls_with_every_argument() -> Vec<Call> {
     calls.extend(numbers().flat_map(|n| [Call::TypeChar(n), Call::SetAttr(n), Call::SetWidth(n)]));
     calls.extend(numbers().flat_map(|n| [Call::SetInsert(n), Call::SetKeysOn(n), Call::Continues(n)]));
     calls.extend(pairs().flat_map(|(a, b)| [Call::SetCursor(a, b), Call::Cell(a, b), Call::New(a, b)]));
-    calls.extend((0..=255).map(|b| Call::PrintBytes(vec![b])));
-    calls.extend(strings_over(&[13, 10, b'A', b' ', 7], 4).into_iter().map(Call::PrintBytes));
+    let strings = strings_over(&[13, 10, b'A', b' ', 7], 4).into_iter().chain((0..=255).map(|b| vec![b]));
+    calls.extend(strings.flat_map(|bytes| [Call::PrintBytes(bytes.clone()), Call::PrintChecked(bytes)]));
     calls
 }
 
 /// All strings over these bytes up to a length.
-fn strings_over(bytes: &[u8], length: usize) -> Vec<Vec<u8>> {
+pub fn strings_over(bytes: &[u8], length: usize) -> Vec<Vec<u8>> {
     let mut all = vec![vec![]];
     let mut longest = all.clone();
     for _ in 0..length {

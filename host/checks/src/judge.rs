@@ -1,5 +1,5 @@
-//! What document 01 says a call answers and leaves, for every lent slice. The refusals are written here, from the document; what an
-//! accepted call does is the Rust's.
+//! What the documents say a call answers and leaves, for every lent slice. The refusals are written here, from them; what an accepted call
+//! does is the Rust's.
 use crate::call::{Call, Kind};
 use crate::layout::*;
 use crate::oracle::{self, TextScreen};
@@ -34,7 +34,7 @@ fn accepted(call: &Call, rec: &[u8], out: &[u8]) -> Outcome {
         Kind::Changing => {
             let mut screen = oracle::opened(rec);
             let text = screen.change(call);
-            Outcome { answer: text.len() as u32, rec: oracle::record_after(rec, &screen), out: over(&text, out) }
+            Outcome { answer: text.len() as u32, rec: oracle::record_after(rec, call, &screen), out: over(&text, out) }
         }
         Kind::Reading => Outcome { answer: oracle::opened(rec).read(call), rec: rec.to_vec(), out: out.to_vec() },
         Kind::Text | Kind::Report => {
@@ -55,7 +55,7 @@ pub fn over(text: &[u8], out: &[u8]) -> Vec<u8> {
     out
 }
 
-/// The first refusal that applies, in document 01's order.
+/// The first refusal that applies, in the documents' order.
 pub fn refusal(call: &Call, rec: &[u8], out: &[u8]) -> Option<u32> {
     if rec.len() != SIZE || out.len() < call.room() {
         Some(1)
@@ -63,13 +63,29 @@ pub fn refusal(call: &Call, rec: &[u8], out: &[u8]) -> Option<u32> {
         None
     } else if !valid(rec) {
         Some(2)
-    } else if !in_range(call, width(rec)) {
-        Some(3)
+    } else if let Some(k) = of_arguments(call, rec) {
+        Some(k)
     } else if call.kind() == Kind::Changing && serial(rec) == LAST_SERIAL {
         Some(4)
     } else {
         None
     }
+}
+
+/// The first refusal for what a call is given, on a valid record.
+pub fn of_arguments(call: &Call, rec: &[u8]) -> Option<u32> {
+    if !in_range(call, width(rec)) {
+        Some(3)
+    } else if splits_a_line_end(call, rec) {
+        Some(13)
+    } else {
+        None
+    }
+}
+
+/// Refusal 13. Document 02, (l), of the checked print: "It refuses an input that begins with 10 while that bit is set".
+fn splits_a_line_end(call: &Call, rec: &[u8]) -> bool {
+    matches!(call, Call::PrintChecked(bytes) if bytes.first() == Some(&10)) && ended_in_cr(rec)
 }
 
 /// Refusal 3: the arguments alone, on a screen of this width.
@@ -98,7 +114,7 @@ fn valid_front(rec: &[u8]) -> bool {
 pub fn valid_head(rec: &[u8]) -> bool {
     let switch = |b: u8| b <= 1;
     (width(rec) == 40 || width(rec) == 80)
-        && switch(rec[INSERT_AT])
+        && rec[BITS_AT] <= ALL_BITS
         && switch(rec[KEYS_AT])
         && cursor(rec).0 < editable(rec)
         && cursor(rec).1 < width(rec)

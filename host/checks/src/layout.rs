@@ -1,4 +1,5 @@
-//! The screen record of document 01, "The cell grid", in version 2 (document 02, (c)): where each field stands. The only file here that knows.
+//! The screen record of document 01, "The cell grid", in version 2 (document 02, (c)) and with the bit of document 02, (l): where each field
+//! stands. The only file here that knows.
 
 pub const SIZE: usize = 4046;
 pub const LENGTH_AT: usize = 0;
@@ -6,7 +7,7 @@ pub const VERSION_AT: usize = 2;
 pub const WIDTH_AT: usize = 3;
 pub const ROW_AT: usize = 4;
 pub const COLUMN_AT: usize = 5;
-pub const INSERT_AT: usize = 6;
+pub const BITS_AT: usize = 6;
 pub const KEYS_AT: usize = 7;
 pub const ATTR_AT: usize = 8;
 const SERIAL_AT: usize = 9;
@@ -18,6 +19,11 @@ const ATTRS_AT: usize = 2046;
 
 /// The bytes before the cells.
 pub const FRONT: usize = CHARS_AT;
+
+/// Byte 6 is at most this: "Byte 6 of the screen record, now 0 to 3, keeps insert in its lowest bit", and has one more.
+pub const ALL_BITS: u8 = 3;
+const INSERT_BIT: u8 = 1;
+const CR_BIT: u8 = 2;
 
 pub const VERSION: u8 = 2;
 pub const ROWS: usize = 25;
@@ -43,6 +49,28 @@ pub fn width(rec: &[u8]) -> usize {
 
 pub fn cursor(rec: &[u8]) -> (usize, usize) {
     (rec[ROW_AT] as usize, rec[COLUMN_AT] as usize)
+}
+
+/// Whether typing inserts.
+pub fn inserting(rec: &[u8]) -> bool {
+    rec[BITS_AT] & INSERT_BIT != 0
+}
+
+pub fn set_insert(rec: &mut [u8], on: bool) {
+    set_bit(rec, INSERT_BIT, on);
+}
+
+/// The bit of document 02, (l): a print ended with 13.
+pub fn ended_in_cr(rec: &[u8]) -> bool {
+    rec[BITS_AT] & CR_BIT != 0
+}
+
+pub fn set_ended_in_cr(rec: &mut [u8], is: bool) {
+    set_bit(rec, CR_BIT, is);
+}
+
+fn set_bit(rec: &mut [u8], bit: u8, on: bool) {
+    rec[BITS_AT] = if on { rec[BITS_AT] | bit } else { rec[BITS_AT] & !bit };
 }
 
 /// E, the number of rows that can be edited.
@@ -161,7 +189,7 @@ const FIELDS: [(usize, &str); 14] = [
     (WIDTH_AT, "width"),
     (ROW_AT, "cursor row"),
     (COLUMN_AT, "cursor column"),
-    (INSERT_AT, "insert"),
+    (BITS_AT, "insert, and whether a print ended with 13"),
     (KEYS_AT, "keys on"),
     (ATTR_AT, "current attribute"),
     (SERIAL_AT, "serial"),

@@ -1,8 +1,8 @@
 //! The archive against the Rust.
 //!
-//! `oracle` brings in the Rust and says what a record is that holds its screen; `judge` adds document 01's refusals, so that every call on
+//! `oracle` brings in the Rust and says what a record is that holds its screen; `judge` adds the documents' refusals, so that every call on
 //! every bytes has one wanted outcome; `trial` makes a call through the archive and compares. The runs are in `random`, `exhaustive`,
-//! `examples`, `refusals` and `drop_in`; `answers` is the file of recorded answers. `strip` has the runs of the key strip. Reports and mirrors are
+//! `examples`, `splits`, `refusals` and `drop_in`; `answers` is the file of recorded answers. `strip` has the runs of the key strip. Reports and mirrors are
 //! run by `simulator`, over `line`, and one by one by `arrivals`; `reports` has the documents' rules for them.
 #![forbid(unsafe_code)]
 
@@ -25,6 +25,7 @@ pub mod records;
 pub mod refusals;
 pub mod reports;
 pub mod simulator;
+pub mod splits;
 pub mod strip;
 pub mod tally;
 pub mod trial;

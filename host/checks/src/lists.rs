@@ -65,7 +65,7 @@ pub fn sittings() -> impl Strategy<Value = u32> {
 pub fn short_lists() -> impl Strategy<Value = List> {
     lists(16).prop_map(|mut list| {
         list.steps.retain(|step| match step {
-            Step::Call(Call::PrintBytes(bytes)) => bytes.len() <= answers::LONGEST_INPUT,
+            Step::Call(Call::PrintBytes(bytes) | Call::PrintChecked(bytes)) => bytes.len() <= answers::LONGEST_INPUT,
             Step::Call(call) => call.kind() == call::Kind::Changing,
             Step::Look => false,
         });
@@ -80,8 +80,9 @@ fn fragment() -> BoxedStrategy<Vec<Step>> {
         12 => calls(vec(one_of(&call::keys()), 1..6).boxed()),
         8 => calls(repeated_key().boxed()),
         8 => calls(typed().boxed()),
-        12 => calls(print().prop_map(|bytes| vec![Call::PrintBytes(bytes)]).boxed()),
-        6 => calls(on_a_place(print().prop_map(|bytes| vec![Call::PrintBytes(bytes)]).boxed()).boxed()),
+        12 => calls(either_print(print()).prop_map(|print| vec![print]).boxed()),
+        6 => calls(on_a_place(either_print(print()).prop_map(|print| vec![print]).boxed()).boxed()),
+        6 => calls(parted_line_ends().boxed()),
         6 => calls(on_a_place(typed().boxed()).boxed()),
         5 => calls(filled_and_ended().boxed()),
         3 => calls(flagged_last_row().boxed()),
@@ -137,7 +138,8 @@ pub fn any_call() -> BoxedStrategy<Call> {
     prop_oneof![
         10 => one_of(&call::keys()),
         10 => prop_oneof![20 => character().prop_map(u32::from), 1 => any_number()].prop_map(Call::TypeChar),
-        4 => print().prop_map(Call::PrintBytes),
+        4 => either_print(print()),
+        2 => print().prop_map(|bytes| Call::PrintChecked([&[10], &bytes[..]].concat())),
         4 => (row(), column()).prop_map(|(row, col)| Call::SetCursor(row, col)),
         1 => (any_number(), any_number()).prop_map(|(row, col)| Call::SetCursor(row, col)),
         3 => switch().prop_map(Call::SetInsert),
@@ -186,6 +188,26 @@ fn print() -> BoxedStrategy<Vec<u8>> {
         1 => (character(), 600..2300usize).prop_map(|(ch, n)| vec![ch; n]),
     ]
     .boxed()
+}
+
+/// One of the two prints.
+fn either_print(bytes: impl Strategy<Value = Vec<u8>>) -> impl Strategy<Value = Call> {
+    (bytes, any::<bool>()).prop_map(|(bytes, checked)| if checked { Call::PrintChecked(bytes) } else { Call::PrintBytes(bytes) })
+}
+
+/// Prints in turn: many end with 13, begin with 10, or are empty. Now and then a key is pressed between them.
+fn parted_line_ends() -> impl Strategy<Value = Vec<Call>> {
+    let part = prop_oneof![12 => any_part(), 1 => print()];
+    vec(prop_oneof![12 => either_print(part), 1 => one_of(&call::keys())], 1..9)
+}
+
+/// A short input, often with half of a line end at its beginning or its end; now and then an ignored byte stands there.
+pub fn any_part() -> impl Strategy<Value = Vec<u8>> {
+    let begin = one_of(&[&b""[..], b"", b"\n", b"\n", b"\n\n", b"\r\n", b"\x07"]);
+    let end = one_of(&[&b""[..], b"", b"\r", b"\r", b"\r\r", b"\r\n", b"\r\x07"]);
+    let middle =
+        prop_oneof![3 => Just(vec![]), 3 => vec(character(), 1..5), 1 => (b'A'..=b'Z', 30..85usize).prop_map(|(ch, n)| vec![ch; n])];
+    (begin, middle, end).prop_map(|(begin, middle, end)| [begin, &middle, end].concat())
 }
 
 /// The cursor set somewhere, often a corner, then the calls.

@@ -15,7 +15,8 @@ pub trait TextScreen {
     fn read(&self, call: &Call) -> u32;
     /// The text of a text call.
     fn text(&self, call: &Call) -> Vec<u8>;
-    /// Writes all of a record but serial, sitting and touched rows, which the Rust does not have, and the bytes beyond the width.
+    /// Writes all of a record but serial, sitting, touched rows and whether a print ended with 13, which the Rust does not have, and the bytes beyond
+    /// the width.
     fn write(&self, rec: &mut [u8]);
 }
 
@@ -36,7 +37,8 @@ macro_rules! text_screen {
 
             fn change(&mut self, call: &Call) -> Vec<u8> {
                 match *call {
-                    Call::PrintBytes(ref bytes) => self.print_bytes(bytes),
+                    // an accepted checked print is the Rust's print
+                    Call::PrintBytes(ref bytes) | Call::PrintChecked(ref bytes) => self.print_bytes(bytes),
                     Call::TypeChar(ch) => self.type_char(ch as u8),
                     Call::Backspace => self.backspace(),
                     Call::DeleteChar => self.delete_char(),
@@ -93,7 +95,7 @@ macro_rules! text_screen {
                 rec[WIDTH_AT] = self.width() as u8;
                 rec[ROW_AT] = self.cursor().0 as u8;
                 rec[COLUMN_AT] = self.cursor().1 as u8;
-                rec[INSERT_AT] = self.insert_mode() as u8;
+                layout::set_insert(rec, self.insert_mode());
                 rec[KEYS_AT] = self.keys_visible() as u8;
                 rec[ATTR_AT] = self.attr();
                 for row in 0..ROWS {
@@ -124,10 +126,10 @@ pub fn opened(rec: &[u8]) -> opened::Screen {
         layout::text(rec, row).iter().zip(attrs).map(|(&ch, &attr)| opened::Cell { ch, attr }).collect()
     };
     let rows = (0..ROWS).map(|row| (cells(row), flagged(rec, row))).collect();
-    opened::Screen::of_parts(width(rec), rows, cursor(rec), rec[INSERT_AT] == 1, rec[KEYS_AT] == 1, rec[ATTR_AT])
+    opened::Screen::of_parts(width(rec), rows, cursor(rec), inserting(rec), rec[KEYS_AT] == 1, rec[ATTR_AT])
 }
 
-/// The record of a new screen in a sitting. Serial and touched rows are 0.
+/// The record of a new screen in a sitting. Serial and touched rows are 0, and no print ended with 13.
 pub fn new_record(width: u32, sitting: u32) -> Vec<u8> {
     let mut rec = vec![0; SIZE];
     screen::Screen::new(width as usize).write(&mut rec);
@@ -135,14 +137,24 @@ pub fn new_record(width: u32, sitting: u32) -> Vec<u8> {
     rec
 }
 
-/// The record after an accepted changing call on `before`: the Rust's screen, the next serial of the same sitting, and the rows that differ.
-pub fn record_after(before: &[u8], screen: &impl TextScreen) -> Vec<u8> {
+/// The record after an accepted changing call on `before`: the Rust's screen after it, the next serial of the same sitting, the rows that differ, and
+/// whether a print ended with 13.
+pub fn record_after(before: &[u8], call: &Call, screen: &impl TextScreen) -> Vec<u8> {
     let mut after = vec![0; SIZE];
     screen.write(&mut after);
+    set_ended_in_cr(&mut after, ended_in_cr_after(call, ended_in_cr(before)));
     set_pair(&mut after, Pair { sitting: sitting(before), serial: serial(before) + 1 });
     let mask = differing_rows(before, &after);
     set_touched(&mut after, mask);
     after
+}
+
+/// Document 02, (l): the bit "is set by a print whose last byte taken is 13, left by one that takes none and cleared by every other changing call".
+fn ended_in_cr_after(call: &Call, before: bool) -> bool {
+    match call {
+        Call::PrintBytes(bytes) | Call::PrintChecked(bytes) => bytes.last().map_or(before, |&last| last == 13),
+        _ => false,
+    }
 }
 
 /// Bit r is set exactly when row r's 160 cell bytes or its flag differ.

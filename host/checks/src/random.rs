@@ -123,10 +123,10 @@ impl Game {
     }
 
     fn wanted(&mut self, call: &Call, out: &[u8]) -> Outcome {
-        let room = out.len() >= call.room();
-        if !room || !judge::in_range(call, width(&self.record)) {
-            let answer = judge::refused(if room { 3 } else { 1 });
-            return Outcome { answer, rec: self.record.clone(), out: out.to_vec() };
+        // The record is valid, and its serial far from the last one.
+        let refusal = if out.len() < call.room() { Some(1) } else { judge::of_arguments(call, &self.record) };
+        if let Some(k) = refusal {
+            return Outcome { answer: judge::refused(k), rec: self.record.clone(), out: out.to_vec() };
         }
         let text = match *call {
             Call::ReportStep => reports::made(reports::Kind::Step, &self.record),
@@ -136,7 +136,7 @@ impl Game {
             _ => return Outcome { answer: self.screen.read(call), rec: self.record.clone(), out: out.to_vec() },
         };
         let rec = match call.kind() {
-            Kind::Changing => oracle::record_after(&self.record, &self.screen),
+            Kind::Changing => oracle::record_after(&self.record, call, &self.screen),
             _ => self.record.clone(),
         };
         Outcome { answer: text.len() as u32, rec, out: judge::over(&text, out) }

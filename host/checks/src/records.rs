@@ -19,6 +19,7 @@ pub struct Head {
     pub row: usize,
     pub column: usize,
     pub insert: bool,
+    pub ended_in_cr: bool,
     pub keys: bool,
     pub attr: u8,
     pub serial: u32,
@@ -54,7 +55,8 @@ impl Sketch {
         rec[WIDTH_AT] = width as u8;
         rec[ROW_AT] = head.row.min(ROWS - 1 - head.keys as usize) as u8;
         rec[COLUMN_AT] = head.column.min(width - 1) as u8;
-        rec[INSERT_AT] = head.insert as u8;
+        set_insert(&mut rec, head.insert);
+        set_ended_in_cr(&mut rec, head.ended_in_cr);
         rec[KEYS_AT] = head.keys as u8;
         rec[ATTR_AT] = head.attr;
         set_pair(&mut rec, Pair { sitting: head.sitting, serial: head.serial });
@@ -124,19 +126,22 @@ fn heads() -> impl Strategy<Value = Head> {
     let row = prop_oneof![one_of(&[0usize, 1, 21, 22, 23, 24]), 0..ROWS];
     let column = prop_oneof![one_of(&[0usize, 1, 8, 15, 38, 39, 40, 78, 79]), 0..80usize];
     let serial = prop_oneof![0..300u32, one_of(&[255, 256, 65_535, 65_536, LAST_SERIAL - 1, LAST_SERIAL]), any::<u32>()];
-    let switches = (any::<bool>(), any::<bool>(), any::<bool>());
+    let switches = any::<[bool; 4]>();
     let stamp = (serial, sittings(), 0..1u32 << 25);
-    (row, column, switches, any::<u8>(), stamp).prop_map(|(row, column, (wide, insert, keys), attr, (serial, sitting, touched))| Head {
-        wide,
-        row,
-        column,
-        insert,
-        keys,
-        attr,
-        serial,
-        sitting,
-        touched,
-    })
+    (row, column, switches, any::<u8>(), stamp).prop_map(
+        |(row, column, [wide, insert, ended_in_cr, keys], attr, (serial, sitting, touched))| Head {
+            wide,
+            row,
+            column,
+            insert,
+            ended_in_cr,
+            keys,
+            attr,
+            serial,
+            sitting,
+            touched,
+        },
+    )
 }
 
 /// Flags as the bits of a mask: few, many, all, or one long run.

@@ -13,21 +13,22 @@ use proptest::test_runner::TestRng;
 /// The samples' sitting: four bytes that differ from each other, none of them at an end.
 const SITTING: u32 = 0x4d20_9b07;
 
-/// A valid record with text, flags, colours, a serial, a sitting and touched rows.
+/// A valid record with text, flags, colours, a serial, a sitting and touched rows; at width 40 a print has ended with 13.
 pub fn sample(width: u32) -> Vec<u8> {
     let mut screen = oracle::screen::Screen::new(width as usize);
     let mut rec = oracle::new_record(width, SITTING);
+    let last = if width == 40 { Call::PrintChecked(b"Q\r".to_vec()) } else { Call::TypeChar(b'Q' as u32) };
     let calls = [
         Call::SetAttr(0x2b),
         Call::PrintBytes(b"10 PRINT \"WARD 7\"\r\n20 GOTO 10\r\n".to_vec()),
         Call::PrintBytes(vec![b'L'; 300]),
         Call::SetKeysOn((width == 80) as u32),
         Call::SetCursor(3, 11),
-        Call::TypeChar(b'Q' as u32),
+        last,
     ];
     for call in calls {
         screen.change(&call);
-        rec = oracle::record_after(&rec, &screen);
+        rec = oracle::record_after(&rec, &call, &screen);
     }
     rec
 }
@@ -54,6 +55,25 @@ pub fn every_byte(tally: &mut Tally) -> Result<(), String> {
                 }
             }
             rec[at] = kept;
+        }
+    }
+    Ok(())
+}
+
+/// Every value of the byte that has two bits, for one call of every name, and for both prints with every first byte of their input and with none.
+pub fn bits(tally: &mut Tally) -> Result<(), String> {
+    let inputs = || (0..=255).map(|first| vec![first, b'A']).chain([vec![], vec![10], vec![10, 10]]);
+    let prints = inputs().flat_map(|bytes| [Call::PrintBytes(bytes.clone()), Call::PrintChecked(bytes)]);
+    let calls: Vec<_> = call::one_of_each().into_iter().chain(prints).collect();
+    for width in [80, 40] {
+        let mut rec = sample(width);
+        for value in 0..=255 {
+            rec[BITS_AT] = value;
+            tally.starts += 1;
+            for call in &calls {
+                attempt(call, &rec, &filler(call.room(), value as usize), tally)
+                    .map_err(|found| format!("width {width}, byte {BITS_AT} set to {value}: {found}"))?;
+            }
         }
     }
     Ok(())
@@ -134,11 +154,12 @@ pub fn version_1(tally: &mut Tally) -> Result<(), String> {
 pub fn order(tally: &mut Tally) -> Result<(), String> {
     let valid = sample(80);
     for call in call::one_of_each() {
-        for bad in arguments_out_of_range(&call).into_iter().chain([call]) {
+        for bad in wrongly_given(&call).into_iter().chain([call]) {
             for (out, length, serial) in faults_beside_the_layout() {
-                for layout in broken_layouts() {
+                for (layout, after_cr) in broken_layouts().into_iter().flat_map(|layout| [(layout, false), (layout, true)]) {
                     let mut rec = valid.clone();
                     tally.starts += 1;
+                    set_ended_in_cr(&mut rec, after_cr);
                     layout(&mut rec);
                     if serial {
                         set_serial(&mut rec, LAST_SERIAL);
@@ -171,7 +192,7 @@ fn broken_layouts() -> [fn(&mut [u8]); 14] {
         |rec| rec[WIDTH_AT] = 41,
         |rec| rec[ROW_AT] = 24,
         |rec| rec[COLUMN_AT] = 80,
-        |rec| rec[INSERT_AT] = 2,
+        |rec| rec[BITS_AT] = ALL_BITS + 1,
         |rec| rec[KEYS_AT] = 2,
         |rec| set_touched(rec, 1 << 25),
         |rec| set_flag(rec, 24, 2),
@@ -185,7 +206,14 @@ fn broken_layouts() -> [fn(&mut [u8]); 14] {
     ]
 }
 
-/// The same call with arguments that document 01 does not allow.
+/// The same call with what the documents do not allow: arguments out of range, and for a checked print, after one that ended with 13, a 10 first.
+fn wrongly_given(call: &Call) -> Vec<Call> {
+    match call {
+        Call::PrintChecked(_) => vec![Call::PrintChecked(vec![10]), Call::PrintChecked(b"\n\r".to_vec())],
+        _ => arguments_out_of_range(call),
+    }
+}
+
 fn arguments_out_of_range(call: &Call) -> Vec<Call> {
     let calls = match call {
         Call::TypeChar(_) => vec![Call::TypeChar(256), Call::TypeChar(u32::MAX)],

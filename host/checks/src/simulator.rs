@@ -26,13 +26,15 @@ use std::fmt;
 use std::rc::Rc;
 
 /// Each of these must have happened to a good number of arrivals.
-pub const TELLING: [&str; 5] = [APPLIED, OLD_OR_EARLY, FOLLOWED, EARLIER_SITTING, LATER_SITTING];
+pub const TELLING: [&str; 6] = [APPLIED, OLD_OR_EARLY, FOLLOWED, EARLIER_SITTING, LATER_SITTING, AFTER_CR];
 
 const APPLIED: &str = "applied";
 const OLD_OR_EARLY: &str = "old or early";
 const FOLLOWED: &str = "restarts followed";
 const EARLIER_SITTING: &str = "of an earlier sitting";
 const LATER_SITTING: &str = "steps of a later sitting";
+/// The mirror then shows a screen on which a print ended with 13.
+const AFTER_CR: &str = "after 13";
 
 /// `cases` terminals, each with its sittings, lines and mirrors.
 pub fn lines(seed: u64, cases: u32, counts: &mut Counts) -> Result<(), String> {
@@ -259,6 +261,7 @@ impl Receiver {
         counts.add(ARRIVALS, 1);
         counts.add(what_happened(applied, made.pair, before.shown), 1);
         counts.add("level", answer as u64);
+        counts.add(AFTER_CR, ended_in_cr(shown) as u64);
         if below(random, 100) == 0 {
             let cells = happens(random, 10);
             look(&mut self.mirror, shown, cells, counts).map_err(told)?;

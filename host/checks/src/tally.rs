@@ -20,6 +20,7 @@ impl Tally {
     pub fn count(&mut self, call: &Call, rec: &[u8], answer: u32) {
         if answer > judge::refused(0) {
             self.refused += 1;
+            self.corners.count_refused(answer - judge::refused(0));
             return;
         }
         match call.kind() {

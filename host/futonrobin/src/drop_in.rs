@@ -1,6 +1,8 @@
 //! The text-mode part of the BASIC runtime's `screen` module, by name and signature, over the proved screen: a runtime that has
 //! `use crate::screen::Screen` writes `use futonrobin::drop_in::Screen`.
 //!
+//! Its prints are the Rust's: a 13 and its 10 in two of them are two newlines. [`crate::Screen::print_checked`] would refuse that.
+//!
 //! Where no signature has room for a refusal, the method panics with its sentence: a changing call on a spent serial, and `cell` and
 //! `continues` out of range, where the Rust panics too.
 use crate::{Refusal, Shown};

@@ -4,7 +4,7 @@
 //! them only. So a pointer and a length that come from one living slice are all that is asked of a caller, and that is what
 //! the functions here hand over. A slice crosses as its pointer and then its length, every number is a `u32`.
 //!
-//! The names are document 01's calls; docs/ABI.md says of each what it answers and refuses.
+//! The names are the documents' calls; docs/ABI.md says of each what it answers and refuses.
 #![allow(missing_docs)]
 
 /// Calls on one record or mirror that is lent to be written, and numbers.
@@ -89,6 +89,7 @@ writing! {
 mod two_slices {
     extern "C" {
         pub fn screen_print_bytes(rec: *mut u8, len: usize, bytes: *const u8, bytes_len: usize) -> u32;
+        pub fn screen_print_checked(rec: *mut u8, len: usize, bytes: *const u8, bytes_len: usize) -> u32;
         pub fn screen_take_logical_line(rec: *mut u8, len: usize, out: *mut u8, out_len: usize) -> u32;
         pub fn mirror_arrive(mir: *mut u8, len: usize, report: *const u8, report_len: usize) -> u32;
         pub fn keys_strip(tab: *const u8, len: usize, offset: u32, width: u32, out: *mut u8, out_len: usize) -> u32;
@@ -97,6 +98,10 @@ mod two_slices {
 
 pub fn screen_print_bytes(rec: &mut [u8], bytes: &[u8]) -> u32 {
     unsafe { two_slices::screen_print_bytes(rec.as_mut_ptr(), rec.len(), bytes.as_ptr(), bytes.len()) }
+}
+
+pub fn screen_print_checked(rec: &mut [u8], bytes: &[u8]) -> u32 {
+    unsafe { two_slices::screen_print_checked(rec.as_mut_ptr(), rec.len(), bytes.as_ptr(), bytes.len()) }
 }
 
 pub fn screen_take_logical_line(rec: &mut [u8], out: &mut [u8]) -> u32 {

@@ -1,5 +1,5 @@
 //! Lengths of the buffers, and the fields that no exported call answers. Document 01, "The cell grid" and "Reports and mirror", in
-//! version 2 (document 02, (c)).
+//! version 2 (document 02, (c)), with two bits in byte 6 (document 02, (l)).
 
 /// Bytes of a screen record.
 pub const SCREEN: usize = 4046;
@@ -14,7 +14,11 @@ pub const LINE: usize = 255;
 /// The shortest output for a snapshot.
 pub const SNAPSHOT: usize = 2024;
 
-pub(crate) const INSERT_AT: usize = 6;
+pub(crate) const BITS_AT: usize = 6;
+/// Of that byte: typing inserts.
+pub(crate) const INSERT_BIT: u8 = 1;
+/// Of that byte: a print ended with 13.
+pub(crate) const CR_BIT: u8 = 2;
 pub(crate) const SERIAL_AT: usize = 9;
 pub(crate) const SITTING_AT: usize = 13;
 pub(crate) const TOUCHED: std::ops::Range<usize> = 17..21;

@@ -1,7 +1,7 @@
 //! The proved text screen and its mirror, for Rust.
 //!
 //! [`Screen`], [`Mirror`], [`Report`] and [`KeyTable`] own their bytes and are valid from the moment they exist; what they do is done by the
-//! archive of the Rattle crates, whose functions are proved. A call that document 01 refuses answers a [`Refusal`] and changes nothing. What
+//! archive of the Rattle crates, whose functions are proved. A call that the documents refuse answers a [`Refusal`] and changes nothing. What
 //! a screen or a mirror shows is read by the trait [`Shown`].
 //!
 //! [`drop_in::Screen`] has the text-mode methods of the BASIC runtime's own `Screen`, by name and signature.

@@ -1,34 +1,37 @@
-//! Document 01's refusals, as an error.
+//! The documents' refusals, as an error.
 use std::fmt;
 
 /// Why a call was refused. A refused call has changed nothing.
 #[derive(Clone, Copy, PartialEq, Eq, Hash, Debug)]
 pub enum Refusal {
     /// 1: a lent slice has the wrong length.
-    WrongLength,
+    WrongLength = 1,
     /// 2: the screen, mirror or key table breaks its layout.
-    BrokenLayout,
+    BrokenLayout = 2,
     /// 3: an argument is out of range.
-    OutOfRange,
+    OutOfRange = 3,
     /// 4: a changing call finds the last serial.
-    SpentSerial,
+    SpentSerial = 4,
     /// 5: an arriving report breaks its layout.
-    BrokenReport,
+    BrokenReport = 5,
     /// 6: a step report changes the width without carrying all rows.
-    WidthWithoutRows,
+    WidthWithoutRows = 6,
+    /// 13: a checked print begins with 10 while [`ended_in_cr`](crate::Shown::ended_in_cr) holds. [`Screen::print_checked`](crate::Screen::print_checked)
+    /// says what to do then.
+    SplitLineEnd = 13,
 }
 
 use Refusal::*;
 
-const ALL: [Refusal; 6] = [WrongLength, BrokenLayout, OutOfRange, SpentSerial, BrokenReport, WidthWithoutRows];
+const ALL: [Refusal; 7] = [WrongLength, BrokenLayout, OutOfRange, SpentSerial, BrokenReport, WidthWithoutRows, SplitLineEnd];
 
 /// Refusal k is this and k.
 const REFUSED: u32 = 4_294_967_040;
 
 impl Refusal {
-    /// Document 01's number.
+    /// The documents' number.
     pub fn number(self) -> u32 {
-        self as u32 + 1
+        self as u32
     }
 
     /// What an exported call has answered: a number, or a refusal.
@@ -49,6 +52,7 @@ impl Refusal {
             SpentSerial => "the serial is spent: this screen has taken 4,294,967,295 calls",
             BrokenReport => "the report breaks its layout",
             WidthWithoutRows => "the step report changes the width without carrying all 25 rows",
+            SplitLineEnd => "a line end is split: 13 was printed last, and these bytes begin with its 10",
         }
     }
 }

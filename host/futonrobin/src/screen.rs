@@ -37,9 +37,35 @@ impl Screen {
     }
 
     /// Prints: 13, 10 and 13 followed by 10 are a newline; 27 and 32 to 255 are written; the others are ignored. A 13 and its 10 belong
-    /// into one call.
+    /// into one call: in two they are two newlines. [`Screen::print_checked`] looks whether that was kept.
     pub fn print_bytes(&mut self, bytes: &[u8]) -> Result<(), Refusal> {
         Refusal::of_answer(ffi::screen_print_bytes(&mut self.record, bytes)).map(drop)
+    }
+
+    /// Prints as [`Screen::print_bytes`] does, but refuses bytes that begin with 10 while [`Shown::ended_in_cr`] holds, with
+    /// [`Refusal::SplitLineEnd`]. So a text that is printed in pieces, with no other changing call between them, looks as if it were printed at
+    /// once, wherever it was cut, if no piece is refused. A call between two pieces, as a key that is typed, makes an end of it: a 10 after it is a
+    /// newline of its own.
+    ///
+    /// ```
+    /// use futonrobin::{Refusal, Screen, Shown};
+    ///
+    /// let mut screen = Screen::new(80, 1);
+    /// screen.print_checked(b"WARD 7\r")?;
+    /// let mut piece = b"\nBED 12".to_vec();
+    /// assert_eq!(screen.print_checked(&piece), Err(Refusal::SplitLineEnd));
+    ///
+    /// // The 10 belongs to the 13 before. With an ignored byte in its place the piece is taken, and both look as if printed at once.
+    /// piece[0] = 0;
+    /// screen.print_checked(&piece)?;
+    /// assert_eq!(screen.snapshot(), b"WARD 7\nBED 12");
+    /// # Ok::<(), Refusal>(())
+    /// ```
+    ///
+    /// To leave the 10 out and print the rest is not the same: of a piece that is a 10 alone nothing would be left, a print of nothing leaves the 13
+    /// open, and the next 10, a newline of its own, would be refused too.
+    pub fn print_checked(&mut self, bytes: &[u8]) -> Result<(), Refusal> {
+        Refusal::of_answer(ffi::screen_print_checked(&mut self.record, bytes)).map(drop)
     }
 
     /// Submits the logical line under the cursor: its text.

@@ -1,5 +1,5 @@
 //! What a screen or a mirror shows, read by the exported reading and text calls.
-use crate::layout::{number, INSERT_AT, LINE, SERIAL_AT, SITTING_AT, SNAPSHOT, TOUCHED};
+use crate::layout::{number, BITS_AT, CR_BIT, INSERT_BIT, LINE, SERIAL_AT, SITTING_AT, SNAPSHOT, TOUCHED};
 use crate::{ffi, Pair, Refusal};
 use std::fmt;
 
@@ -45,7 +45,12 @@ pub trait Shown {
 
     /// Whether typing inserts.
     fn insert_mode(&self) -> bool {
-        self.record()[INSERT_AT] == 1
+        self.record()[BITS_AT] & INSERT_BIT != 0
+    }
+
+    /// Whether the last changing call was a print that ended with 13, prints of no bytes aside: a 10 that is printed next belongs to it.
+    fn ended_in_cr(&self) -> bool {
+        self.record()[BITS_AT] & CR_BIT != 0
     }
 
     /// How many changing calls were accepted since the screen was new.

@@ -6,6 +6,8 @@ use futonrobin::{drop_in, KeyTable, Kind, Mirror, Pair, Refusal, Report, Screen,
 const SERIAL: std::ops::Range<usize> = 9..13;
 /// Where records, reports and mirrors have their version.
 const VERSION: usize = 2;
+/// Where document 02 has a record's insert and, beside it, that a print ended with 13.
+const BITS: usize = 6;
 
 type Change = fn(&mut Screen) -> Result<(), Refusal>;
 
@@ -16,15 +18,16 @@ fn spent() -> Screen {
 }
 
 #[test]
-fn refusals_have_document_01s_numbers() {
-    for (number, refusal) in (1..).zip([
-        Refusal::WrongLength,
-        Refusal::BrokenLayout,
-        Refusal::OutOfRange,
-        Refusal::SpentSerial,
-        Refusal::BrokenReport,
-        Refusal::WidthWithoutRows,
-    ]) {
+fn refusals_have_the_documents_numbers() {
+    for (number, refusal) in [
+        (1, Refusal::WrongLength),
+        (2, Refusal::BrokenLayout),
+        (3, Refusal::OutOfRange),
+        (4, Refusal::SpentSerial),
+        (5, Refusal::BrokenReport),
+        (6, Refusal::WidthWithoutRows),
+        (13, Refusal::SplitLineEnd),
+    ] {
         assert_eq!(refusal.number(), number);
         assert_eq!(Refusal::of_answer(4_294_967_040 + number), Err(refusal));
         assert!(refusal.to_string().ends_with(&format!("(refusal {number})")));
@@ -104,8 +107,9 @@ fn every_sitting_is_taken_and_answered() {
 #[test]
 fn changing_calls_keep_the_sitting() {
     let mut screen = Screen::new(80, 0x0102_0304);
-    let calls: [Change; 8] = [
+    let calls: [Change; 9] = [
         |screen| screen.print_bytes(&[b'A'; 3000]),
+        |screen| screen.print_checked(b"WARD 7\r"),
         |screen| screen.type_char(b'B'),
         Screen::escape_line,
         Screen::clear,
@@ -164,6 +168,7 @@ fn a_spent_serial_refuses_every_changing_call() {
     let mut screen = before.clone();
     assert_eq!(screen.type_char(b'A'), Err(Refusal::SpentSerial));
     assert_eq!(screen.print_bytes(b"A"), Err(Refusal::SpentSerial));
+    assert_eq!(screen.print_checked(b"\n"), Err(Refusal::SpentSerial));
     assert_eq!(screen.take_logical_line(), Err(Refusal::SpentSerial));
     assert_eq!(screen.set_width(41), Err(Refusal::OutOfRange), "3 comes before 4");
     assert!(screen == before);
@@ -202,6 +207,102 @@ fn what_is_typed_is_shown() {
     assert_eq!(screen.snapshot(), b"AXB");
 }
 
+/// What comes between a 13 and its 10, and whether the 10 is then refused.
+const BETWEEN: [(&str, Change, bool); 7] = [
+    ("nothing", |_| Ok(()), true),
+    ("a print of no bytes", |screen| screen.print_bytes(b""), true),
+    ("a checked print of no bytes", |screen| screen.print_checked(b""), true),
+    ("an ignored byte", |screen| screen.print_checked(b"\x07"), false),
+    ("the 10, unchecked", |screen| screen.print_bytes(b"\n"), false),
+    ("another call", Screen::end_of_line, false),
+    ("a call that changes nothing", |screen| screen.set_insert(screen.insert_mode()), false),
+];
+
+#[test]
+fn a_split_line_end_is_refused() {
+    for insert in [false, true] {
+        for (what, change, refused) in BETWEEN {
+            let mut screen = Screen::new(80, 3);
+            screen.set_insert(insert).unwrap();
+            screen.print_checked(b"WARD 7\r").unwrap();
+            assert!(screen.ended_in_cr());
+            change(&mut screen).unwrap();
+            assert_eq!((screen.ended_in_cr(), screen.insert_mode()), (refused, insert), "{what}");
+            let before = screen.clone();
+            assert_eq!(screen.print_checked(b"\nBED 12"), if refused { Err(Refusal::SplitLineEnd) } else { Ok(()) }, "{what}");
+            assert_eq!(screen == before, refused, "{what}");
+            assert_eq!((screen.ended_in_cr(), screen.insert_mode()), (refused, insert), "{what}");
+        }
+    }
+}
+
+#[test]
+fn a_split_line_end_comes_before_a_spent_serial() {
+    let mut record = spent().record().to_vec();
+    record[BITS] = 2;
+    let before = Screen::from_bytes(&record).unwrap();
+    let mut screen = before.clone();
+    assert_eq!(screen.print_checked(b"\n"), Err(Refusal::SplitLineEnd), "13 comes before 4");
+    assert_eq!(screen.print_checked(b"A\n"), Err(Refusal::SpentSerial));
+    assert_eq!(screen.print_bytes(b"\n"), Err(Refusal::SpentSerial));
+    assert!(screen == before);
+}
+
+/// What a caller does whose text comes in pieces: in the place of a 10 that is refused stands a byte that is ignored.
+fn print_piece(screen: &mut Screen, piece: &[u8]) {
+    match screen.print_checked(piece) {
+        Err(Refusal::SplitLineEnd) => screen.print_checked(&[&[0], &piece[1..]].concat()).unwrap(),
+        printed => printed.unwrap(),
+    }
+}
+
+#[test]
+fn pieces_look_like_the_whole() {
+    let text = b"A\r\n\nB\r\r\nC\n\r\x07\nD\r";
+    let mut whole = Screen::new(40, 3);
+    whole.print_bytes(text).unwrap();
+    for (first, second) in (0..=text.len()).flat_map(|first| (first..=text.len()).map(move |second| (first, second))) {
+        let mut screen = Screen::new(40, 3);
+        for piece in [&text[..first], &text[first..second], &text[second..]] {
+            print_piece(&mut screen, piece);
+        }
+        assert_eq!(
+            (screen.snapshot(), screen.cursor(), screen.ended_in_cr()),
+            (whole.snapshot(), whole.cursor(), true),
+            "{first}, {second}"
+        );
+    }
+}
+
+#[test]
+fn byte_6_has_two_bits() {
+    let mut record = Screen::new(80, 3).record().to_vec();
+    for (byte, insert, ended_in_cr) in [(0, false, false), (1, true, false), (2, false, true), (3, true, true)] {
+        record[BITS] = byte;
+        let screen = Screen::from_bytes(&record).unwrap();
+        assert_eq!((screen.insert_mode(), screen.ended_in_cr()), (insert, ended_in_cr));
+        assert_eq!(screen.same_as(&Screen::new(80, 3)), byte == 0);
+        assert_eq!(drop_in::Screen::from(screen).insert_mode(), insert);
+    }
+    for byte in 4..=255 {
+        record[BITS] = byte;
+        assert_eq!(Screen::from_bytes(&record).err(), Some(Refusal::BrokenLayout), "{byte}");
+    }
+}
+
+#[test]
+fn a_mirror_shows_both_bits() {
+    let (mut screen, mut mirror) = (Screen::new(80, 3), Mirror::new(80, 3));
+    let calls: [Change; 4] =
+        [|screen| screen.set_insert(true), |screen| screen.print_checked(b"WARD 7\r"), |screen| screen.print_checked(b""), Screen::home];
+    for (call, bits) in calls.iter().zip([(true, false), (true, true), (true, true), (true, false)]) {
+        call(&mut screen).unwrap();
+        assert_eq!(mirror.arrive(screen.report_step()), Ok(true));
+        assert_eq!((mirror.insert_mode(), mirror.ended_in_cr()), bits);
+        assert!(mirror.same_as(&screen));
+    }
+}
+
 #[test]
 fn the_key_table() {
     let mut keys = KeyTable::standard();
@@ -228,6 +329,15 @@ fn the_drop_in_panics_where_no_signature_has_room() {
     assert!(!drop_in::Screen::new(80).set_width(41));
     assert!(!drop_in::Screen::new(80).set_width((1 << 32) + 40));
     assert_eq!(drop_in::Screen::new((1 << 32) + 40).width(), 80);
+}
+
+#[test]
+fn the_drop_in_parts_line_ends_as_the_rust_does() {
+    let mut screen = drop_in::Screen::new(80);
+    for (bytes, row) in [(&b"\r"[..], 1), (b"", 1), (b"\n", 2), (b"\r\n", 3)] {
+        screen.print_bytes(bytes);
+        assert_eq!(screen.cursor(), (row, 0));
+    }
 }
 
 #[test]

@@ -377,7 +377,7 @@ mod tests {
         scene.screen.set_width(80).unwrap();
         for _ in 0..24 * 79 {
             scene.screen.set_attr(random.rand_u32() as u8).unwrap();
-            scene.screen.print_bytes(&[random.rand_range(33..256) as u8]).unwrap();
+            scene.screen.print_checked(&[random.rand_range(33..256) as u8]).unwrap();
         }
         let now = scene.at(50);
         let sent = scene.candidate.full(&scene.screen, now);

@@ -128,7 +128,7 @@ mod tests {
     fn an_ordinary_screen_is_one_piece() {
         let (mut cutter, mut joiner, mut screen) = (Cutter::default(), Joiner::default(), Screen::new(80, 5));
         for n in 0..24 {
-            screen.print_bytes(format!("{n}0 PRINT \"WARD {n}: {} BEDS FREE, {} TAKEN\"\r\n", n * 7 % 10, 31 - n).as_bytes()).unwrap();
+            screen.print_checked(format!("{n}0 PRINT \"WARD {n}: {} BEDS FREE, {} TAKEN\"\r\n", n * 7 % 10, 31 - n).as_bytes()).unwrap();
         }
         let report = screen.report_full();
         let pieces = cutter.pieces(screen.width() as u8, report.as_bytes());

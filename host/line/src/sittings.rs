@@ -92,12 +92,12 @@ mod tests {
     #[test]
     fn each_sitting_has_its_own_last_screen() {
         let (mut sittings, mut first, mut second) = (Sittings::default(), Screen::new(40, 5), Screen::new(80, 9));
-        first.print_bytes(b"FIRST").unwrap();
+        first.print_checked(b"FIRST").unwrap();
         sittings.arrive(START, 40, &first.report_step()).unwrap();
-        second.print_bytes(b"SECOND").unwrap();
+        second.print_checked(b"SECOND").unwrap();
         sittings.arrive(START, 80, &second.report_step()).unwrap();
         // Late, and applied nevertheless.
-        first.print_bytes(b", TO THE END").unwrap();
+        first.print_checked(b", TO THE END").unwrap();
         sittings.arrive(START, 40, &first.report_step()).unwrap();
         assert_eq!(sittings.before(9).map(|mirror| mirror.snapshot()).collect::<Vec<_>>(), [b"FIRST, TO THE END"]);
         assert_eq!(sittings.before(10).next_back().unwrap().snapshot(), b"SECOND");

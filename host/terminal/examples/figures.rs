@@ -70,12 +70,12 @@ fn full_reports() {
         let (mut listing, mut noise, mut random) = (Screen::new(width, 1), Screen::new(width, 1), Rand32::new(1));
         for n in 1..=24 {
             let line = format!("{n}0 PRINT \"WARD {n}: {} BEDS FREE, {} TAKEN\"\r\n", n * 7 % 10, 31 - n);
-            listing.print_bytes(line.as_bytes()).unwrap();
+            listing.print_checked(line.as_bytes()).unwrap();
         }
         full("a listing of 24 lines", &listing);
         for _ in 0..25 * width {
             noise.set_attr(random.rand_u32() as u8).unwrap();
-            noise.print_bytes(&[random.rand_range(33..256) as u8]).unwrap();
+            noise.print_checked(&[random.rand_range(33..256) as u8]).unwrap();
         }
         full("random characters in random colours", &noise);
     }

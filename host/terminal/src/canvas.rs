@@ -281,7 +281,7 @@ mod tests {
     #[test]
     fn a_row_that_goes_on_is_underlined_at_its_end() {
         let (mut screen, mut canvas) = (Screen::new(40, 1), Canvas::new(Size { cols: 41, rows: 3 }));
-        screen.print_bytes(&[b'A'; 41]).unwrap();
+        screen.print_checked(&[b'A'; 41]).unwrap();
         canvas.rows(0, 0, &screen, 0..3);
         let underlined = |row| (0..41).filter(|&col| canvas.row(row)[col].underlined).collect::<Vec<_>>();
         assert_eq!([0, 1, 2].map(underlined), [vec![39], vec![], vec![]]);

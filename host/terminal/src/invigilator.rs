@@ -347,11 +347,22 @@ mod tests {
     }
 
     #[test]
+    fn insert_stands_there_after_a_print_that_ended_with_13() {
+        let (mut invigilator, mut candidates) = listening();
+        let (now, mut printed) = (invigilator.now, Screen::new(80, 5));
+        printed.set_insert(true).unwrap();
+        printed.print_checked(b"WARD 7\r").unwrap();
+        candidates.full(&mut invigilator.end, &printed, now);
+        let rows = shown(&mut invigilator, USUAL);
+        assert!(rows[22].ends_with("INSERT  room for 255"), "{}", rows[22]);
+    }
+
+    #[test]
     fn modes_continuation_and_a_window_by_hand() {
         let (mut invigilator, mut candidates) = listening();
         let (now, mut typed) = (invigilator.now, Screen::new(80, 5));
-        (0..23).for_each(|row| typed.print_bytes(format!("ROW {row}\r").as_bytes()).unwrap());
-        typed.print_bytes(b"LAST").unwrap();
+        (0..23).for_each(|row| typed.print_checked(format!("ROW {row}\r").as_bytes()).unwrap());
+        typed.print_checked(b"LAST").unwrap();
         typed.set_insert(true).unwrap();
         typed.set_cursor(21, 3).unwrap();
         typed.ctrl_enter().unwrap();

@@ -119,7 +119,7 @@ mod tests {
         let mut screen = Screen::new(width, 1);
         screen.set_keys_on(false).unwrap();
         let cells = (0..25 * width - 1).map(|n| b'0' + (n % 71 + n / width) as u8 % 75);
-        screen.print_bytes(&cells.collect::<Vec<_>>()).unwrap();
+        screen.print_checked(&cells.collect::<Vec<_>>()).unwrap();
         screen.set_keys_on(keys).unwrap();
         screen
     }

@@ -56,6 +56,7 @@ mod tests {
     use super::*;
     use crate::desk::Desk;
     use crate::keys::{Key, NAMED};
+    use futonrobin::Mirror;
     use oorandom::Rand32;
 
     fn said(shown: &impl Shown) -> String {
@@ -66,8 +67,8 @@ mod tests {
     fn a_line_of_several_rows() {
         let mut screen = Screen::new(40, 1);
         assert_eq!(said(&screen), "room for 255");
-        screen.print_bytes(b"FIRST\r").unwrap();
-        screen.print_bytes(&[b'A'; 85]).unwrap();
+        screen.print_checked(b"FIRST\r").unwrap();
+        screen.print_checked(&[b'A'; 85]).unwrap();
         assert_eq!((rows(&screen), said(&screen)), (1..=3, "room for 170, line in rows 2 to 4".into()));
         screen.set_cursor(1, 0).unwrap();
         assert_eq!(said(&screen), "room for 170, line in rows 2 to 4", "what is overwritten needs none");
@@ -78,6 +79,21 @@ mod tests {
         assert_eq!(said(&screen), "INSERT, room for 145, line in rows 2 to 4", "a line reaches to the cursor");
         screen.set_cursor(0, 0).unwrap();
         assert_eq!((rows(&screen), said(&screen)), (0..=0, "INSERT, room for 250".into()));
+    }
+
+    #[test]
+    fn insert_is_told_whether_a_print_ended_with_13_or_not() {
+        let (mut screen, mut mirror) = (Screen::new(40, 1), Mirror::new(40, 1));
+        for insert in [true, false, true] {
+            screen.set_insert(insert).unwrap();
+            for text in [&b"WARD 7\r"[..], b"", b"BED 12"] {
+                screen.print_checked(text).unwrap();
+                mirror.arrive(screen.report_full()).unwrap();
+                assert_eq!(screen.ended_in_cr(), text != b"BED 12");
+                assert_eq!(said(&screen).starts_with("INSERT, room for "), insert, "{screen:?}");
+                assert_eq!(said(&mirror), said(&screen));
+            }
+        }
     }
 
     /// The cells and flags of a screen.

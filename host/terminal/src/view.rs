@@ -147,7 +147,7 @@ mod tests {
         let (mut invigilator, mut candidates) = (Invigilator::new(&shared), Candidates::new(shared));
         for sitting in sittings {
             let mut screen = Screen::new(40, sitting);
-            screen.print_bytes(sitting.to_string().as_bytes()).unwrap();
+            screen.print_checked(sitting.to_string().as_bytes()).unwrap();
             candidates.full(&mut invigilator, &screen, now);
         }
         invigilator.follower

@@ -123,7 +123,7 @@ fn disturb(address: &str, shared: &SharedKey, stop: &AtomicBool) -> (u64, u64) {
     let socket = UdpSocket::bind("127.0.0.1:0").unwrap();
     let (mut older, mut forged) = (Screen::new(80, 1), Screen::new(80, u32::MAX));
     for screen in [&mut older, &mut forged] {
-        screen.print_bytes(b"NOT THE CANDIDATE'S").unwrap();
+        screen.print_checked(b"NOT THE CANDIDATE'S").unwrap();
     }
     let now = Instant::now();
     let mut candidate = line::Candidate::new(shared, &older, now);

@@ -4,7 +4,7 @@
 //! round with the seed after the last, until the minutes are over.
 use checks::options::{options, verdict};
 use checks::tally::{add_round, report, Part, Tally};
-use checks::{drop_in, examples, exhaustive, random, refusals};
+use checks::{drop_in, examples, exhaustive, random, refusals, splits};
 use std::process::exit;
 use std::time::Instant;
 
@@ -12,6 +12,7 @@ const RANDOM_LISTS: &str = "random lists from a new screen";
 const LISTS: u32 = 3_000;
 const RECORDS: u32 = 150_000;
 const DRIVEN: u32 = 1_500;
+const PARTED: u32 = 30_000;
 
 fn part(name: &'static str, run: impl FnOnce(&mut Tally) -> Result<(), String>) -> Part {
     println!("{name} ..");
@@ -29,6 +30,7 @@ fn random_parts(seed: u64) -> Vec<Part> {
         part(RANDOM_LISTS, |tally| random::random_lists(seed, LISTS, tally)),
         part("single calls on random valid records", |tally| random::random_records(seed, RECORDS, tally)),
         part("random lists through the drop-in screen", |tally| drop_in::random_lists(seed, DRIVEN, tally)),
+        part("checked prints in turn on random records", |tally| splits::random_inputs(seed, PARTED, tally)),
         part("refusals: random damages, 10,000 a call", |tally| refusals::random_damage(seed, tally)),
     ]
 }
@@ -37,13 +39,15 @@ fn random_parts(seed: u64) -> Vec<Part> {
 fn fixed_parts() -> Vec<Part> {
     vec![
         part("document 01's starred examples", examples::starred),
-        part("every call from every place, 28 screens", exhaustive::every_place),
+        part("every call from every place, 30 screens", exhaustive::every_place),
         part("every class of arguments", exhaustive::every_argument),
+        part("texts cut in two and three at every place", splits::every_cut),
         part("what panics, in the drop-in screen too", drop_in::panics),
         part("refusals: lengths", refusals::every_length),
         part("refusals: serials and sittings", refusals::serials),
         part("refusals: version 1", refusals::version_1),
         part("refusals: order", refusals::order),
+        part("refusals: the byte with two bits", refusals::bits),
         part("refusals: every byte, every other value", refusals::every_byte),
     ]
 }

@@ -108,7 +108,7 @@ impl Seat {
         self.screen.set_width(80).unwrap();
         for _ in 0..24 * 79 {
             self.screen.set_attr(random.rand_u32() as u8).unwrap();
-            self.screen.print_bytes(&[random.rand_range(33..256) as u8]).unwrap();
+            self.screen.print_checked(&[random.rand_range(33..256) as u8]).unwrap();
         }
     }
 }

@@ -58,7 +58,8 @@ pub fn call(screen: &mut Screen, random: &mut Rand32) {
         32 => screen.set_keys_on(byte % 2 == 0),
         33 => screen.set_insert(byte % 2 == 0),
         34 => screen.take_logical_line().map(drop),
-        _ => screen.print_bytes(&noise(byte.into(), random)),
+        35 => screen.print_checked([&b"\r"[..], b"\n", b""][usize::from(byte % 3)]),
+        _ => screen.print_checked(&noise(byte.into(), random)),
     };
 }
 
@@ -66,6 +67,6 @@ pub fn call(screen: &mut Screen, random: &mut Rand32) {
 pub fn scribble(screen: &mut Screen, random: &mut Rand32) -> [Screen; 2] {
     screen.set_attr(random.rand_u32() as u8).unwrap();
     let coloured = screen.clone();
-    screen.print_bytes(&noise(60, random)).unwrap();
+    screen.print_checked(&noise(60, random)).expect("the call before was no print, so no 13 is without its 10");
     [coloured, screen.clone()]
 }

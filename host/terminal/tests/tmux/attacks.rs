@@ -127,7 +127,7 @@ const LAST: u32 = u32::MAX;
 
 fn forged_screen(sitting: u32, serial: u32) -> Screen {
     let mut screen = Screen::new(80, sitting);
-    screen.print_bytes(FORGED.as_bytes()).unwrap();
+    screen.print_checked(FORGED.as_bytes()).unwrap();
     let mut record = screen.record().to_vec();
     record[SERIAL].copy_from_slice(&serial.to_be_bytes());
     Screen::from_bytes(&record).unwrap()

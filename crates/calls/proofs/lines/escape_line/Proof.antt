@@ -2,7 +2,7 @@
 use borrow.Author.Needs.{needs}
 use Rattle.calls.proofs.Changing.{call-size, copy-size, call-copied, copy-serial, call-refused, copied-fits, copied-done}
 use Rattle.calls.proofs.RefusalLaws.{no-own}
-use Rattle.editor.specs.Call.{lengths, own, answer, rule}
+use Rattle.editor.specs.Call.{lengths, own, answer, rule, crLeft, crAfter}
 use Rattle.calls.proofs.lines.escape_line.Statement.{statement}
 use Rattle.calls.proofs.lines.escape_line.Tie as tie
 
@@ -36,7 +36,7 @@ same-length-2 : tie.Need-same-length-2
 same-length-2 c = search needs
 
 returns-2 : tie.Need-returns-2
-unfolding lengths own answer rule
+unfolding lengths own answer rule crLeft crAfter
 returns-2 c = search (needs, copied-done, no-own)
 
 pub escape-line-spec : {M : Type 1} → statement M

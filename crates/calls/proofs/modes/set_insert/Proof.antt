@@ -2,7 +2,7 @@
 use borrow.Author.Needs.{needs}
 use Rattle.calls.proofs.Changing.{call-size, call-valid, call-serial, switch-fits, call-refused, moves-fits, move-done}
 use Rattle.calls.proofs.RefusalLaws.{range-known}
-use Rattle.editor.specs.Call.{lengths, own, answer, rule}
+use Rattle.editor.specs.Call.{lengths, own, answer, rule, crLeft, crAfter}
 use Rattle.calls.proofs.modes.set_insert.Statement.{statement}
 use Rattle.calls.proofs.modes.set_insert.Tie as tie
 
@@ -33,7 +33,7 @@ same-length-2 : tie.Need-same-length-2
 same-length-2 c = search needs
 
 returns-2 : tie.Need-returns-2
-unfolding lengths own answer rule
+unfolding lengths own answer rule crLeft crAfter
 returns-2 c = search (needs, move-done)
 
 pub set-insert-spec : {M : Type 1} → statement M

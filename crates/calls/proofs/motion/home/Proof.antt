@@ -2,7 +2,7 @@
 use borrow.Author.Needs.{needs}
 use Rattle.calls.proofs.Changing.{call-size, call-valid, call-serial, call-refused, moves-fits, move-done}
 use Rattle.calls.proofs.RefusalLaws.{no-own}
-use Rattle.editor.specs.Call.{lengths, own, answer, rule}
+use Rattle.editor.specs.Call.{lengths, own, answer, rule, crLeft, crAfter}
 use Rattle.calls.proofs.motion.home.Statement.{statement}
 use Rattle.calls.proofs.motion.home.Tie as tie
 
@@ -27,7 +27,7 @@ same-length-2 : tie.Need-same-length-2
 same-length-2 c = search needs
 
 returns-2 : tie.Need-returns-2
-unfolding lengths own answer rule
+unfolding lengths own answer rule crLeft crAfter
 returns-2 c = search (needs, move-done, no-own)
 
 pub home-spec : {M : Type 1} → statement M

@@ -2,7 +2,7 @@
 use borrow.Author.Needs.{needs}
 use Rattle.calls.proofs.Changing.{call-size, copy-size, call-copied, copy-serial, byte-fits, call-refused, copied-fits, copied-done}
 use Rattle.calls.proofs.RefusalLaws.{range-known}
-use Rattle.editor.specs.Call.{lengths, own, answer, rule}
+use Rattle.editor.specs.Call.{lengths, own, answer, rule, crLeft, crAfter}
 use Rattle.calls.proofs.typing.type_char.Statement.{statement}
 use Rattle.calls.proofs.typing.type_char.Tie as tie
 
@@ -42,7 +42,7 @@ same-length-2 : tie.Need-same-length-2
 same-length-2 c = search needs
 
 returns-2 : tie.Need-returns-2
-unfolding lengths own answer rule
+unfolding lengths own answer rule crLeft crAfter
 returns-2 c = search (needs, copied-done)
 
 pub type-char-spec : {M : Type 1} → statement M

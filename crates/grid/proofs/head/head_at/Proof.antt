@@ -4,6 +4,12 @@ use Rattle.grid.proofs.HeadLaws.{head-read}
 use Rattle.grid.proofs.head.head_at.Statement.{statement}
 use Rattle.grid.proofs.head.head_at.Tie as tie
 
+add-bits : tie.Need-add-bits
+add-bits c = search needs
+
+shared-slice-read-bits : tie.Need-shared-slice-read-bits
+shared-slice-read-bits c = search needs
+
 shared-slice-read-wide : tie.Need-shared-slice-read-wide
 shared-slice-read-wide c = search needs
 
@@ -28,17 +34,11 @@ shared-slice-read-wide-3 c = search needs
 wide-requires-3 : tie.Need-wide-requires-3
 wide-requires-3 c κs = search needs
 
-add-t15 : tie.Need-add-t15
-add-t15 c = search needs
+add-t19 : tie.Need-add-t19
+add-t19 c = search needs
 
-shared-slice-read-t17 : tie.Need-shared-slice-read-t17
-shared-slice-read-t17 c = search needs
-
-add-t18 : tie.Need-add-t18
-add-t18 c = search needs
-
-shared-slice-read-t20 : tie.Need-shared-slice-read-t20
-shared-slice-read-t20 c = search needs
+shared-slice-read-t21 : tie.Need-shared-slice-read-t21
+shared-slice-read-t21 c = search needs
 
 add-new : tie.Need-add-new
 add-new c = search needs
@@ -56,6 +56,8 @@ pub head-at-spec : {M : Type 1} → statement M
 head-at-spec =
     tie.close
     (tie.spec
+    add-bits
+    shared-slice-read-bits
     shared-slice-read-wide
     wide-requires
     add-wide
@@ -64,10 +66,8 @@ head-at-spec =
     add-wide-2
     shared-slice-read-wide-3
     wide-requires-3
-    add-t15
-    shared-slice-read-t17
-    add-t18
-    shared-slice-read-t20
+    add-t19
+    shared-slice-read-t21
     add-new
     shared-slice-read-new
     new-requires

@@ -9,6 +9,9 @@ use Rattle.grid.proofs.head.put_head.Tie as tie
 byte-requires : tie.Need-byte-requires
 byte-requires c κs = search needs
 
+bits-byte-requires : tie.Need-bits-byte-requires
+bits-byte-requires c κs = search needs
+
 cast-dst : tie.Need-cast-dst
 cast-dst c = search needs
 
@@ -62,6 +65,7 @@ put-head-spec =
     tie.close
     (tie.spec
     byte-requires
+    bits-byte-requires
     cast-dst
     slice-write-dst
     cast-dst-2

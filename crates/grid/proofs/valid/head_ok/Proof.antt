@@ -1,6 +1,6 @@
 -- `grid::valid::head_ok` meets its contract. Assumes nothing.
 use borrow.Author.Needs.{needs}
-use Rattle.grid.proofs.ValidLaws.{width-found, insert-found, keys-found, cursor-found, column-found, head-end}
+use Rattle.grid.proofs.ValidLaws.{width-found, insert-found, cr-found, keys-found, cursor-found, column-found, head-end}
 use Rattle.grid.proofs.valid.head_ok.Statement.{statement}
 use Rattle.grid.proofs.valid.head_ok.Tie as tie
 
@@ -23,13 +23,16 @@ returns-4 : tie.Need-returns-4
 returns-4 c = search (needs, insert-found)
 
 returns-5 : tie.Need-returns-5
-returns-5 c = search (needs, keys-found)
+returns-5 c = search (needs, cr-found)
+
+returns-6 : tie.Need-returns-6
+returns-6 c = search (needs, keys-found)
 
 attr-ok-requires : tie.Need-attr-ok-requires
 attr-ok-requires c κs = search needs
 
-returns-6 : tie.Need-returns-6
-returns-6 c = search (needs, head-end)
+returns-7 : tie.Need-returns-7
+returns-7 c = search (needs, head-end)
 
 pub head-ok-spec : {M : Type 1} → statement M
 head-ok-spec =
@@ -42,5 +45,6 @@ head-ok-spec =
     returns-3
     returns-4
     returns-5
+    returns-6
     attr-ok-requires
-    returns-6)
+    returns-7)
