@@ -95,14 +95,16 @@ fn an_invigilator_started_anew_is_level_with_nothing_replayed_but_with_the_candi
     scene.between.forth(Way::Replay);
     let (anew, port) = invigilator("anew-second", key());
     scene.invigilator = anew;
+    scene.candidate.wait_for("NO INVIGILATOR HEARD for ");
     scene.between.leads_to(port);
+    let unknown = |look: &Look| assert!(!look.is_level() && look.age.is_none(), "{}", look.shown.lines.join("\n"));
+    // Its questions reach the candidate, and the answers are lost; it has heard nothing that the candidate said since.
+    let asked =
+        |shown: &Shown| shown.has("the invigilator shows call 8 of 8") && number(shown, "as of ").is_some_and(|seconds| seconds >= 5.0);
+    watch_until(&scene, asked, unknown);
     scene.watch("the old screen, of an unknown time", NEVER, |look| {
-        assert!(!look.is_level() && look.age.is_none(), "{}", look.shown.lines.join("\n"));
+        unknown(look);
         look.length == 8 && look.says("SILENT for") && look.says("the screen of an unknown time")
-    });
-    // All the time its questions reach the candidate, and the answers are lost; it has heard nothing that the candidate said since.
-    scene.candidate.wait("an old answer", |shown| {
-        shown.has("the invigilator shows call 8 of 8") && number(shown, "as of ").is_some_and(|seconds| seconds >= 5.0)
     });
     scene.candidate.leave();
 

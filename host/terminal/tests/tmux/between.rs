@@ -35,19 +35,20 @@ struct Stream {
     too_long: usize,
     /// What is on its way, and when it is due.
     coming: Vec<(Instant, Vec<u8>)>,
-    /// So many of those that passed come again; how many did, and when the last one.
+    /// So many of those that passed come again, and from there on; how often one did, and when the last one.
     old: usize,
+    next: usize,
     replayed: usize,
     last: Instant,
 }
 
 impl Stream {
     fn new() -> Self {
-        Self { way: Way::Pass, passed: Vec::new(), too_long: 0, coming: Vec::new(), old: 0, replayed: 0, last: Instant::now() }
+        Self { way: Way::Pass, passed: Vec::new(), too_long: 0, coming: Vec::new(), old: 0, next: 0, replayed: 0, last: Instant::now() }
     }
 
     fn turn_to(&mut self, way: Way) {
-        (self.way, self.old) = (way, self.passed.len());
+        (self.way, self.old, self.next) = (way, self.passed.len(), 0);
     }
 
     fn take(&mut self, datagram: &[u8], now: Instant) {
@@ -77,9 +78,10 @@ impl Stream {
         if !replays || self.old == 0 || now.saturating_duration_since(self.last) < PACE {
             return None;
         }
-        self.last = now;
+        let datagram = self.passed[self.next].clone();
+        (self.last, self.next) = (now, (self.next + 1) % self.old);
         self.replayed += 1;
-        Some(self.passed[(self.replayed - 1) % self.old].clone())
+        Some(datagram)
     }
 }
 
@@ -158,9 +160,10 @@ impl Between {
         self.port
     }
 
-    /// Another invigilator gets what passes from now on.
+    /// Another invigilator gets what passes from now on, and what comes again from its beginning.
     pub fn leads_to(&self, invigilator: u16) {
-        self.line().invigilator = here(invigilator);
+        let mut line = self.line();
+        (line.invigilator, line.forth.next) = (here(invigilator), 0);
     }
 
     /// What the candidate says.
