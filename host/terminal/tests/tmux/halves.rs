@@ -194,11 +194,10 @@ fn faults_that_are_changed_while_it_runs() {
 fn modes(shell: &Pane, when: &str) -> String {
     shell.write(&format!("echo {when}-$(stty -g | cksum)\n"));
     // Not the line that was typed.
-    let printed = |shown: &Shown| {
+    shell.wait_to_find(when, |shown| {
         let after = |line: &String| line.split_once(&format!("{when}-")).map(|(_, modes)| modes.to_string());
         shown.lines.iter().filter_map(after).find(|modes| !modes.starts_with('$'))
-    };
-    printed(&shell.wait(when, |shown| printed(shown).is_some())).unwrap()
+    })
 }
 
 /// A shell, and the program started from it, with its process number.

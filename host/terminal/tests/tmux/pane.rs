@@ -1,5 +1,6 @@
 //! A terminal of tmux with a program in it: keys go in, what is shown is read, and one waits for what should be shown.
 use crate::folder::Folder;
+use std::fs;
 use std::path::{Path, PathBuf};
 use std::process::Command;
 use std::sync::OnceLock;
@@ -7,8 +8,8 @@ use std::thread::sleep;
 use std::time::{Duration, Instant};
 use terminal::key_file;
 
-/// Where the sittings of the programs are kept.
-const STATE: &str = concat!(env!("CARGO_TARGET_TMPDIR"), "/state-of-tmux");
+/// The last sitting that a program finds when it starts. The clock is beyond it, so that there is nothing to be told of its own.
+const LAST_SITTING: u32 = 1_000;
 
 /// Longer than anything here takes; a test that waits so long has failed.
 pub const DEADLINE: Duration = Duration::from_secs(60);
@@ -25,7 +26,7 @@ pub fn key() -> &'static Path {
 }
 
 pub struct Pane {
-    /// Where the server has its socket.
+    /// Where the server has its socket, and the program its sittings.
     folder: Folder,
 }
 
@@ -33,6 +34,8 @@ impl Pane {
     /// Starts a command in a terminal of this size, with a tmux server of its own.
     pub fn start(name: &str, cols: usize, rows: usize, command: &str) -> Self {
         let pane = Self { folder: Folder::new(name) };
+        fs::create_dir(pane.folder.0.join("futonrobin")).unwrap();
+        fs::write(pane.folder.0.join("futonrobin/sitting"), LAST_SITTING.to_string()).unwrap();
         let (cols, rows) = (cols.to_string(), rows.to_string());
         pane.tmux(&["-f", "/dev/null", "new-session", "-d", "-x", &cols, "-y", &rows, command]);
         pane
@@ -64,7 +67,7 @@ impl Pane {
 
     fn server(&self) -> Command {
         let mut tmux = Command::new("tmux");
-        tmux.arg("-u").arg("-S").arg(self.folder.0.join("socket")).env("XDG_STATE_HOME", STATE);
+        tmux.arg("-u").arg("-S").arg(self.folder.0.join("socket")).env("XDG_STATE_HOME", &self.folder.0);
         tmux
     }
 
@@ -122,11 +125,16 @@ impl Pane {
 
     /// Waits until that is shown.
     pub fn wait(&self, what: &str, seen: impl Fn(&Shown) -> bool) -> Shown {
+        self.wait_to_find(what, |shown| seen(shown).then(|| shown.clone()))
+    }
+
+    /// Waits until that is found in what is shown. One look finds it: at the next one the program may just be painting.
+    pub fn wait_to_find<T>(&self, what: &str, find: impl Fn(&Shown) -> Option<T>) -> T {
         let begun = Instant::now();
         loop {
             let shown = self.shown();
-            if seen(&shown) {
-                return shown;
+            if let Some(found) = find(&shown) {
+                return found;
             }
             assert!(begun.elapsed() < DEADLINE, "never seen: {what}. Shown is\n{}", shown.lines.join("\n"));
             sleep(Duration::from_millis(20));
@@ -145,6 +153,7 @@ impl Drop for Pane {
     }
 }
 
+#[derive(Clone)]
 pub struct Shown {
     pub lines: Vec<String>,
 }

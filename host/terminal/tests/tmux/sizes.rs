@@ -39,8 +39,7 @@ impl Watched<'_> {
 
     /// Waits until what is in sight is what the screen has, row by row, marks and strip with it, and the cursor's row is among it.
     fn wait_for_rows_of(&self, screen: &Screen) -> Seen {
-        let right = |shown: &Shown| self.right(shown, screen);
-        right(&self.pane.wait(&format!("the rows of {screen:?}"), |shown| right(shown).is_some())).unwrap()
+        self.pane.wait_to_find(&format!("the rows of {screen:?}"), |shown| self.right(shown, screen))
     }
 
     fn right(&self, shown: &Shown, screen: &Screen) -> Option<Seen> {
@@ -55,7 +54,7 @@ impl Watched<'_> {
         let (row, col) = screen.cursor();
         let at = |seen: &Seen| Some((1 + row as usize - seen.above, self.left + col as usize));
         let right = |shown: &Shown| self.right(shown, screen).filter(|seen| self.pane.cursor() == at(seen));
-        right(&self.pane.wait(&format!("all of {screen:?}"), |shown| right(shown).is_some())).unwrap()
+        self.pane.wait_to_find(&format!("all of {screen:?}"), right)
     }
 }
 

@@ -17,8 +17,7 @@ fn invigilator(name: &str) -> (Pane, u16) {
 /// The port at which an invigilator listens; it shows it while nobody is heard.
 pub fn port_of(invigilator: &Pane) -> u16 {
     let port = |line: &String| line.split_once("listening at 127.0.0.1:").and_then(|(_, port)| port.trim().parse().ok());
-    let shown = invigilator.wait("the address", |shown| shown.lines.iter().any(|line| port(line).is_some()));
-    shown.lines.iter().find_map(port).unwrap()
+    invigilator.wait_to_find("the address", |shown| shown.lines.iter().find_map(port))
 }
 
 fn candidate(name: &str, port: u16, more: &str) -> Pane {
