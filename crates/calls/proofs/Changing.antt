@@ -34,7 +34,8 @@ use Rattle.editor.specs.Outcome.{serialTests, changeTests, changing, LAST-SERIA
 use Rattle.editor.specs.Given.{Copied, Ends}
 use Rattle.editor.proofs.KeptCall.{apply-facts}
 use Rattle.editor.proofs.Refusals.{going}
-use Rattle.calls.specs.Answers.{Answers, lateAnswer, changeAnswer}
+use Rattle.calls.specs.Answers.{Answers}
+use Rattle.calls.specs.Parts.{lateAnswer, changeAnswer, changedFrom}
 use Rattle.calls.proofs.RefusalLaws.{tests-answer, tested-own}
 
 -- ---- what is so of an accepted call: long and o are what `change_refused` was given
@@ -131,14 +132,14 @@ module _ (c : Call) (l : List ℕ) (o k : ℕ) (io : o ≡ refusedWith (firstOf 
       pub leaves-fits : HeadFits h
       leaves-fits = head-kept h (left .head)
 
-      pub leaves-state : (n : List ℕ) → n ≡ frontBytes (withCr h (crAfter c (screenOf old))) (record { pair = nextPair (pairOf old); touched = touchedRows (rowsOf old) (rowsOf m) }) ++ drop FLAGS m
+      pub leaves-state : (n : List ℕ) → n ≡ changedFrom old (withCr h (crAfter c (screenOf old))) m
           → n ≡ stateBytes (step c (readState l))
       leaves-state n e =
           state-left h m n (touchedRows (rowsOf l) (rowsOf m)) (left .becomes .rows) (left .becomes .size) (left .head)
           (ap (touchedRows (rowsOf l)) (left .becomes .rows)) (rw copy at e)
 
       pub call-done : (n : List ℕ) (v : ℕ) → v ≡ answer c (screenOf l)
-          → n ≡ frontBytes (withCr h (crAfter c (screenOf old))) (record { pair = nextPair (pairOf old); touched = touchedRows (rowsOf old) (rowsOf m) }) ++ drop FLAGS m → Answers (changing c l) v n
+          → n ≡ changedFrom old (withCr h (crAfter c (screenOf old))) m → Answers (changing c l) v n
       call-done n v ev e = rw (outcome-done zero) (record { number = ev; left = leaves-state n e })
 
     -- a call whose work reads the copy
@@ -150,7 +151,7 @@ module _ (c : Call) (l : List ℕ) (o k : ℕ) (io : o ≡ refusedWith (firstOf 
       copied-fits = leaves-fits old m copy h here
 
       pub copied-done : (n : List ℕ) (v : ℕ) → v ≡ answer c (screenOf l)
-          → n ≡ frontBytes (withCr h (crAfter c (screenOf old))) (record { pair = nextPair (pairOf old); touched = touchedRows (rowsOf old) (rowsOf m) }) ++ drop FLAGS m → Answers (changing c l) v n
+          → n ≡ changedFrom old (withCr h (crAfter c (screenOf old))) m → Answers (changing c l) v n
       copied-done n v ev e = call-done old m copy h here n v ev e
 
     -- `tab`, which also writes heads on the way
@@ -159,7 +160,7 @@ module _ (c : Call) (l : List ℕ) (o k : ℕ) (io : o ≡ refusedWith (firstOf 
       ends-fits = head-kept h (ends .head)
 
       pub ends-done : (n : List ℕ) (v : ℕ) → v ≡ answer c (screenOf l)
-          → n ≡ frontBytes (withCr h (crAfter c (screenOf old))) (record { pair = nextPair (pairOf old); touched = touchedRows (rowsOf old) (rowsOf m) }) ++ drop FLAGS m → Answers (changing c l) v n
+          → n ≡ changedFrom old (withCr h (crAfter c (screenOf old))) m → Answers (changing c l) v n
       ends-done n v ev e =
           rw (outcome-done zero)
           (record {

@@ -16,6 +16,7 @@ use Rattle.grid.specs.Record.{rowsOf, pairOf, serialOf, frontBytes}
 use Rattle.grid.specs.declared.head.Head.{Head}
 use Rattle.grid.specs.declared.pair.Pair.{Pair}
 use Rattle.editor.specs.Outcome.{LAST-SERIAL}
+use Rattle.calls.specs.Parts.{changedFrom}
 
 pub next-fits : (l : List ℕ) (p : Pair) → p ≡ pairOf l → (serialOf l ≡ LAST-SERIAL → ⊥) → Fits w32 (p .serial) → Fits w32 (p .serial + 1)
 next-fits l p e last f =
@@ -28,7 +29,7 @@ next-read l p e = ap nextPair e
 
 pub finished : (l m n : List ℕ) (h : Head) (p : Pair) (touched : ℕ) → p ≡ nextPair (pairOf l) → touched ≡ touchedRows (rowsOf l) (rowsOf m)
     → n ≡ frontBytes h (record { pair = p; touched = touched }) ++ drop FLAGS m
-    → n ≡ frontBytes h (record { pair = nextPair (pairOf l); touched = touchedRows (rowsOf l) (rowsOf m) }) ++ drop FLAGS m
+    → n ≡ changedFrom l h m
 finished l m n h p touched ep et e = e ∙ ap₂ (λ (x : Pair) (y : ℕ). frontBytes h (record { pair = x; touched = y }) ++ drop FLAGS m) ep et
 
 -- g is the head h with the bit v
@@ -36,9 +37,7 @@ pub bit-fits : (h g : Head) (v : ℕ) → g ≡ withCr h v → HeadFits h → He
 bit-fits h g v e f = rw e (record { width = f .width; row = f .row; col = f .col })
 
 module _ (h g : Head) (v : ℕ) (eg : g ≡ withCr h v) where
-  pub finished-bit : (l m n : List ℕ) (cr : ℕ) → v ≡ cr
-      → n ≡ frontBytes g (record { pair = nextPair (pairOf l); touched = touchedRows (rowsOf l) (rowsOf m) }) ++ drop FLAGS m
-      → n ≡ frontBytes (withCr h cr) (record { pair = nextPair (pairOf l); touched = touchedRows (rowsOf l) (rowsOf m) }) ++ drop FLAGS m
+  pub finished-bit : (l m n : List ℕ) (cr : ℕ) → v ≡ cr → n ≡ changedFrom l g m → n ≡ changedFrom l (withCr h cr) m
   finished-bit l m n cr ev e = rw (← ev, ← eg) e
 
   pub finished-move : (l n : List ℕ) (p : Pair) → p ≡ nextPair (pairOf l) → n ≡ frontBytes g (record { pair = p; touched = 0 }) ++ drop FLAGS l

@@ -2,17 +2,15 @@
 -- Assumes nothing.
 use Prim.Native.Nat.{ℕ, _≤_}
 use mathlib.Core.Path.{_≡_, refl, ap, _∙_, subst}
-use mathlib.Core.List.{List, _++_}
+use mathlib.Core.List.{List}
 use mathlib.Core.Logic.{_≢_}
 use lib.Dec.{leb}
-use lib.ListN.{length, take, drop}
+use lib.ListN.{length, take}
 use borrow.Author.Tests.{leb-true}
 use Rattle.bytes.specs.Answer.{over, wrote, Writes}
 use Rattle.bytes.specs.Refusals.{firstOf, refusedWith}
-use Rattle.grid.specs.Layout.{FLAGS}
-use Rattle.grid.specs.Pair.{nextPair}
-use Rattle.grid.specs.Screen.{withCr, touchedRows}
-use Rattle.grid.specs.Record.{rowsOf, screenOf, pairOf, frontBytes, Leaves}
+use Rattle.grid.specs.Screen.{withCr}
+use Rattle.grid.specs.Record.{screenOf, Leaves}
 use Rattle.grid.specs.Facts.{HeadFits}
 use Rattle.grid.specs.declared.head.Head.{Head}
 use Rattle.line.specs.Line.{MAX-LOGICAL, lineText}
@@ -21,7 +19,8 @@ use Rattle.line.specs.declared.reading.Reading.{Reading}
 use Rattle.editor.specs.Lines.{takeLogicalLine}
 use Rattle.editor.specs.Call.{TakeLogicalLine, output, lengths, own, submitted, answer, apply, rule, crLeft, crAfter}
 use Rattle.editor.specs.Outcome.{changing}
-use Rattle.calls.specs.Answers.{Submits, changeAnswer}
+use Rattle.calls.specs.Answers.{Submits}
+use Rattle.calls.specs.Parts.{changeAnswer, changedFrom}
 use Rattle.calls.proofs.RefusalLaws.{no-own}
 use Rattle.calls.proofs.Changing.{call-lengths, outcome-refused, outcome-done, copied-fits, leaves-state}
 
@@ -50,8 +49,7 @@ module _ (l out : List ℕ) (n : ℕ) (is : n ≡ changeAnswer (leb MAX-LOGICAL 
       take-fits = copied-fits (TakeLogicalLine out) l 0 n own-is is′ zero old m copy h left
 
       pub take-done : (t : Reading) (v : ℕ) (r out′ : List ℕ) → Reads t (lineText (screenOf old))
-          → r ≡ frontBytes (withCr h 0) (record { pair = nextPair (pairOf old); touched = touchedRows (rowsOf old) (rowsOf m) }) ++ drop FLAGS m
-          → Writes (wrote (take (t .len) (t .bytes)) out) v out′ → Submits (changing (TakeLogicalLine out) l) v r out′
+          → r ≡ changedFrom old (withCr h 0) m → Writes (wrote (take (t .len) (t .bytes)) out) v out′ → Submits (changing (TakeLogicalLine out) l) v r out′
       unfolding apply submitted answer output rule wrote crLeft crAfter
       take-done t v r out′ reads e w =
           let text : take (t .len) (t .bytes) ≡ lineText (screenOf l) = reads .text ∙ ap (λ (x : List ℕ). lineText (screenOf x)) copy in

@@ -18,7 +18,7 @@ use Rattle.editor.specs.Print.{splits}
 use Rattle.editor.specs.Call.{Call, PrintChecked, lengths, own, rule}
 use Rattle.editor.specs.Outcome.{LAST-SERIAL, serialTests, changeTests}
 use Rattle.editor.proofs.Refusals.{tells}
-use Rattle.calls.specs.Answers.{lateAnswer, changeAnswer, splitAnswer}
+use Rattle.calls.specs.Parts.{lateAnswer, changeAnswer, splitAnswer}
 
 -- ---- `late_refused`: o is what the call's own refusals answer
 

@@ -7,11 +7,12 @@ ghost use mathlib.Core.List.{_++_};
 ghost use lib.ListN.{length, drop};
 ghost use Rattle.grid.specs.Layout.{SIZE, FLAGS};
 ghost use Rattle.grid.specs.Pair.{nextPair};
-ghost use Rattle.grid.specs.Screen.{withCr, touchedRows};
-ghost use Rattle.grid.specs.Record.{headOf, pairOf, serialOf, rowsOf, frontBytes};
+ghost use Rattle.grid.specs.Screen.{withCr};
+ghost use Rattle.grid.specs.Record.{headOf, pairOf, serialOf, frontBytes};
 ghost use Rattle.grid.specs.Facts.{HeadFits};
 ghost use Rattle.editor.specs.Call.{lastCr};
 ghost use Rattle.editor.specs.Outcome.{LAST-SERIAL};
+ghost use Rattle.calls.specs.Parts.{changedFrom};
 
 // The next serial of the same sitting.
 fn next_pair(rec: &[u8]) -> Pair
@@ -29,7 +30,7 @@ fn next_pair(rec: &[u8]) -> Pair
 // Writes the head h, the next serial and the rows that differ from the record's copy old.
 fn write_changed(rec: &mut [u8], old: &[u8], h: head::Head)
     requires { ⌜ (length (now rec) ≡ SIZE) × (length (now old) ≡ SIZE) × HeadFits h × (serialOf (now old) ≡ LAST-SERIAL → ⊥) ⌝ }
-    ensures { λ _. ⌜ now (rec .exit) ≡ frontBytes h (record { pair = nextPair (pairOf (now (old .entry))); touched = touchedRows (rowsOf (now (old .entry))) (rowsOf (now (rec .entry))) }) ++ drop FLAGS (now (rec .entry)) ⌝ }
+    ensures { λ _. ⌜ now (rec .exit) ≡ changedFrom (now (old .entry)) h (now (rec .entry)) ⌝ }
 {
     let touched = grid::touched::changed_rows(old, rec);
     let next = next_pair(old);
@@ -43,7 +44,7 @@ fn write_changed(rec: &mut [u8], old: &[u8], h: head::Head)
 // The end of a call that may have changed rows, where old is the record's copy; it clears the bit.
 pub fn finish(rec: &mut [u8], old: &[u8], h: head::Head)
     requires { ⌜ (length (now rec) ≡ SIZE) × (length (now old) ≡ SIZE) × HeadFits h × (serialOf (now old) ≡ LAST-SERIAL → ⊥) ⌝ }
-    ensures { λ _. ⌜ now (rec .exit) ≡ frontBytes (withCr h 0) (record { pair = nextPair (pairOf (now (old .entry))); touched = touchedRows (rowsOf (now (old .entry))) (rowsOf (now (rec .entry))) }) ++ drop FLAGS (now (rec .entry)) ⌝ }
+    ensures { λ _. ⌜ now (rec .exit) ≡ changedFrom (now (old .entry)) (withCr h 0) (now (rec .entry)) ⌝ }
 {
     write_changed(rec, old, h.with_cr(0));
 }
@@ -51,7 +52,7 @@ pub fn finish(rec: &mut [u8], old: &[u8], h: head::Head)
 // The end of a print of bytes, whose last one decides about the bit.
 pub fn finish_print(rec: &mut [u8], old: &[u8], h: head::Head, bytes: &[u8])
     requires { ⌜ (length (now rec) ≡ SIZE) × (length (now old) ≡ SIZE) × HeadFits h × (serialOf (now old) ≡ LAST-SERIAL → ⊥) ⌝ }
-    ensures { λ _. ⌜ now (rec .exit) ≡ frontBytes (withCr h (lastCr (headOf (now (old .entry)) .cr) (now (bytes .entry)))) (record { pair = nextPair (pairOf (now (old .entry))); touched = touchedRows (rowsOf (now (old .entry))) (rowsOf (now (rec .entry))) }) ++ drop FLAGS (now (rec .entry)) ⌝ }
+    ensures { λ _. ⌜ now (rec .exit) ≡ changedFrom (now (old .entry)) (withCr h (lastCr (headOf (now (old .entry)) .cr) (now (bytes .entry)))) (now (rec .entry)) ⌝ }
 {
     let cr = print::cr_left(old, bytes);
     write_changed(rec, old, h.with_cr(cr));

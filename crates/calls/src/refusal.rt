@@ -6,11 +6,11 @@ ghost use mathlib.Core.Path.{_≡_};
 ghost use mathlib.Core.Bool.{true};
 ghost use lib.ListN.{length};
 ghost use Rattle.grid.specs.Layout.{SIZE};
-ghost use Rattle.calls.specs.Answers.{lateAnswer, changeAnswer, splitAnswer};
+ghost use Rattle.calls.specs.Parts.{lateAnswer, changeAnswer, splitAnswer};
 
 const LAST_SERIAL: u32 = 4294967295;
 
-// What a changing call answers if it is refused behind the record's refusals, else 0. own: what the call's own refusals answer, 0 if there is none.
+// What a changing call answers if it is refused behind the record's refusals, else 0. own: what the call's own refusals answer.
 fn late_refused(rec: &[u8], own: u32) -> u32
     requires { ⌜ length (now rec) ≡ SIZE ⌝ }
     ensures { λ n. ⌜ n ≡ lateAnswer own (now (rec .entry)) ⌝ }
@@ -25,7 +25,8 @@ fn late_refused(rec: &[u8], own: u32) -> u32
     0
 }
 
-// What a changing call answers if it is refused, else 0. lengths: every lent slice beside the record has a length that is taken.
+// What a changing call answers if it is refused, else 0. lengths: every lent slice beside the record has a length that is taken; own: what the call's own
+// refusals answer, 0 if there is none.
 pub fn change_refused(rec: &[u8], lengths: bool, own: u32) -> u32
     ensures { λ n. ⌜ n ≡ changeAnswer lengths own (now (rec .entry)) ⌝ }
 {
@@ -36,6 +37,7 @@ pub fn change_refused(rec: &[u8], lengths: bool, own: u32) -> u32
     late_refused(rec, own)
 }
 
+// What the checked print's own refusal answers, else 0.
 fn split_refused(rec: &[u8], bytes: &[u8]) -> u32
     requires { ⌜ length (now rec) ≡ SIZE ⌝ }
     ensures { λ n. ⌜ n ≡ splitAnswer (now (bytes .entry)) (now (rec .entry)) ⌝ }
@@ -46,7 +48,7 @@ fn split_refused(rec: &[u8], bytes: &[u8]) -> u32
     0
 }
 
-// The same of the checked print, whose own refusal looks into the record.
+// What the checked print answers if it is refused, else 0. Its own refusal looks into the record, so it is looked for when the record's length is known.
 pub fn checked_refused(rec: &[u8], bytes: &[u8]) -> u32
     ensures { λ n. ⌜ n ≡ changeAnswer true (splitAnswer (now (bytes .entry)) (now (rec .entry))) (now (rec .entry)) ⌝ }
 {

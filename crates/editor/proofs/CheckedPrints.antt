@@ -2,14 +2,14 @@
 -- Assumes nothing.
 use Prim.Native.Nat.{ℕ, _≤_, _<_}
 use mathlib.Core.Path.{_≡_, refl, sym, ap, _∙_, subst}
-use mathlib.Core.Bool.{Bool, true, false, not, _&&_, true≢false}
+use mathlib.Core.Bool.{Bool, true, false, not, _&&_}
 use mathlib.Core.List.{List, [], _∷_, _++_}
 use mathlib.Core.Logic.{_≢_, ⊎-elim}
 use native.Mathlib.Omega.{arith}
 use lib.Dec.{eqb}
 use lib.ListN.{length, getD, take, drop}
 use lib.Seq.{take-length}
-use borrow.Author.Tests.{eq-eqb, not-true}
+use borrow.Author.Tests.{not-true}
 use Rattle.bytes.specs.Choice.{if_then_else_}
 use Rattle.bytes.specs.Answer.{refused, isRefusal}
 use Rattle.bytes.specs.Refusals.{allPass}
@@ -31,7 +31,7 @@ use Rattle.editor.specs.Refusals.{ChangeRefused}
 use Rattle.editor.specs.Refusals.ChangeRefused.{record-length, layout, last-serial}
 use Rattle.editor.specs.Lists.{accepted, recordLeft, screenLeft, steps}
 use Rattle.editor.specs.CheckedPrints.{inTurn, together, CheckedPrints}
-use Rattle.editor.proofs.PrintParts.{after13, print-bit, print-parts, last-append, last-set}
+use Rattle.editor.proofs.PrintParts.{print-bit, print-parts, last-append}
 use Rattle.editor.proofs.Refusals.{changing-answers, change-none, going}
 use Rattle.editor.proofs.Lists.{change-refused, change-accepted, state-of, calls-left, calls-facts, steps-screen}
 
@@ -49,26 +49,22 @@ first-byte [] s w = refl
 first-byte ([] ∷ inputs) s w = first-byte inputs s w
 first-byte ((b ∷ bs) ∷ inputs) s w = not-true _ (and-left (not (eqb b 10 && eqb (s .head .cr) 1)) _ w)
 
-module _ (as′ bs : List ℕ) (s : Screen) where
-  -- a 10 that follows 13 would be refused
-  not-parted : splits (afterCall (PrintBytes as′) s) bs ≡ false → after13 false as′ && eqb (getD bs 0 0) 10 ≡ false
-  unfolding splits afterCall crAfter crLeft rule
-  not-parted e = go (after13 false as′) refl
-    where
-      go : (a : Bool) → after13 false as′ ≡ a → after13 false as′ && eqb (getD bs 0 0) 10 ≡ false
-      go false q = left-false _ _ q
-      go true q =
-          and-false (after13 false as′) _
-          (⊎-elim (λ n. n) (λ n. absurd (true≢false (sym (eq-eqb _ 1 (last-set as′ (s .head .cr) q)) ∙ n)))
-          (and-cases (eqb (getD bs 0 0) 10) (eqb (lastCr (s .head .cr) as′) 1) e))
+-- a 10 that follows 13 would be refused
+not-parted : (as′ bs : List ℕ) (s : Screen) → splits (afterCall (PrintBytes as′) s) bs ≡ false → eqb (lastCr 0 as′) 1 && eqb (getD bs 0 0) 10 ≡ false
+unfolding splits afterCall crAfter crLeft lastCr rule
+not-parted [] bs s e = refl
+not-parted (a ∷ as′) bs s e =
+    let ten : Bool = eqb (getD bs 0 0) 10 in
+    let set : Bool = eqb (lastCr 0 (a ∷ as′)) 1 in
+    ⊎-elim (and-false set ten) (left-false set ten) (and-cases ten set e)
 
-  two-prints : splits (afterCall (PrintBytes as′) s) bs ≡ false
-      → afterCall (PrintBytes bs) (afterCall (PrintBytes as′) s) ≡ afterCall (PrintBytes (as′ ++ bs)) s
-  unfolding afterCall crAfter crLeft apply rule
-  two-prints e =
-      let first : ℕ = lastCr (s .head .cr) as′ in
-      let both = print-bit first bs false (print false s as′) ∙ ap (λ (x : Screen). withBit x first) (sym (print-parts as′ bs s (not-parted e))) in
-      λ i. withBit (both i) (sym (last-append as′ bs (s .head .cr)) i)
+two-prints : (as′ bs : List ℕ) (s : Screen) → splits (afterCall (PrintBytes as′) s) bs ≡ false
+    → afterCall (PrintBytes bs) (afterCall (PrintBytes as′) s) ≡ afterCall (PrintBytes (as′ ++ bs)) s
+unfolding afterCall crAfter crLeft apply rule
+two-prints as′ bs s e =
+    let first : ℕ = lastCr (s .head .cr) as′ in
+    let both = print-bit first bs false (print false s as′) ∙ ap (λ (x : Screen). withBit x first) (sym (print-parts as′ bs s (not-parted as′ bs s e))) in
+    λ i. withBit (both i) (sym (last-append as′ bs (s .head .cr)) i)
 
 -- so the checked prints leave what one print leaves
 one-print : (inputs : List (List ℕ)) (s : Screen) → noneSplits s inputs ≡ true → screenLeft s (inTurn inputs) ≡ afterCall (PrintBytes (together inputs)) s

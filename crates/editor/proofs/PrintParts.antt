@@ -2,12 +2,12 @@
 -- Assumes nothing.
 use Prim.Native.Nat.{ℕ, _+_, _-_}
 use mathlib.Core.Path.{_≡_, refl, sym, ap, _∙_}
-use mathlib.Core.Bool.{Bool, true, false, _&&_, true≢false}
+use mathlib.Core.Bool.{Bool, true, false, _&&_}
 use mathlib.Core.List.{List, [], _∷_, _++_}
 use lib.Dec.{eqb, ltb}
 use lib.ListN.{getD}
 use Rattle.bytes.specs.Choice.{if_then_else_}
-use Rattle.bytes.proofs.Bools.{pick, skip}
+use Rattle.bytes.proofs.Bools.{skip}
 use Rattle.grid.specs.Screen.{Screen, withRows, withBit, moveTo, setFlag, editable, printable}
 use Rattle.values.specs.Cursor.{at}
 use Rattle.line.specs.Line.{rowText}
@@ -58,14 +58,12 @@ module _ (v : ℕ) where
 
 -- ---- one print after another
 
--- whether the byte before the next one is 13
-unfoldable pub after13 : Bool → List ℕ → Bool
-after13 cr [] = cr
-after13 cr (b ∷ bs) = after13 (eqb b 13) bs
-
-print-append : (as′ bs : List ℕ) (cr : Bool) (s : Screen) → print cr s (as′ ++ bs) ≡ print (after13 cr as′) (print cr s as′) bs
-unfolding print after13
-print-append [] bs cr s = refl
+-- the next byte follows 13 if the bit would be set
+print-append : (as′ bs : List ℕ) (cr : Bool) (s : Screen)
+    → print cr s (as′ ++ bs) ≡ print (eqb (lastCr (if cr then 1 else 0) as′) 1) (print cr s as′) bs
+unfolding print lastCr if_then_else_
+print-append [] bs true s = refl
+print-append [] bs false s = refl
 print-append (a ∷ as′) bs cr s = print-append as′ bs (eqb a 13) (printByte cr s a)
 
 byte-alone : (cr : Bool) (s : Screen) (b : ℕ) → cr && eqb b 10 ≡ false → printByte cr s b ≡ printByte false s b
@@ -74,14 +72,15 @@ byte-alone true s b e =
     ap (λ (x : Screen). if eqb b 13 then newline s else x) (skip _ _ _ e ∙ sym (skip (eqb b 10) (if false then s else newline s) _ e))
 byte-alone false s b e = refl
 
-pub print-parts : (as′ bs : List ℕ) (s : Screen) → after13 false as′ && eqb (getD bs 0 0) 10 ≡ false
+pub print-parts : (as′ bs : List ℕ) (s : Screen) → eqb (lastCr 0 as′) 1 && eqb (getD bs 0 0) 10 ≡ false
     → print false s (as′ ++ bs) ≡ print false (print false s as′) bs
+unfolding if_then_else_
 print-parts as′ bs s e = print-append as′ bs false s ∙ start bs e
   where
-    start : (cs : List ℕ) → after13 false as′ && eqb (getD cs 0 0) 10 ≡ false
-        → print (after13 false as′) (print false s as′) cs ≡ print false (print false s as′) cs
+    start : (cs : List ℕ) → eqb (lastCr 0 as′) 1 && eqb (getD cs 0 0) 10 ≡ false
+        → print (eqb (lastCr 0 as′) 1) (print false s as′) cs ≡ print false (print false s as′) cs
     start [] h = unfold print in refl
-    start (c ∷ cs) h = unfold print in ap (λ (x : Screen). print (eqb c 13) x cs) (byte-alone (after13 false as′) (print false s as′) c h)
+    start (c ∷ cs) h = unfold print in ap (λ (x : Screen). print (eqb c 13) x cs) (byte-alone (eqb (lastCr 0 as′) 1) (print false s as′) c h)
 
 -- ---- the bit after one print and another
 
@@ -89,14 +88,3 @@ pub last-append : (as′ bs : List ℕ) (cr : ℕ) → lastCr cr (as′ ++ bs) �
 unfolding lastCr
 last-append [] bs cr = refl
 last-append (a ∷ as′) bs cr = last-append as′ bs (if eqb a 13 then 1 else 0)
-
--- after 13 it is set
-set-after : (bs : List ℕ) (cr : Bool) → after13 cr bs ≡ true → lastCr (if cr then 1 else 0) bs ≡ 1
-unfolding after13 lastCr
-set-after [] cr e = pick cr 1 0 e
-set-after (b ∷ bs) cr e = set-after bs (eqb b 13) e
-
-pub last-set : (bs : List ℕ) (cr : ℕ) → after13 false bs ≡ true → lastCr cr bs ≡ 1
-unfolding after13 lastCr
-last-set [] cr e = absurd (true≢false (sym e))
-last-set (b ∷ bs) cr e = set-after bs (eqb b 13) e

@@ -1,4 +1,4 @@
--- Each kind of call is refused exactly by document 01's conditions, in their order, and does what the rules say otherwise.
+-- Each kind of call is refused exactly by the documents' conditions, in their order, and does what the rules say otherwise.
 -- Assumes nothing.
 use Prim.Native.Nat.{ℕ, _<_}
 use mathlib.Core.Path.{_≡_, refl, sym, ap, _∙_, subst}

@@ -46,7 +46,7 @@ pub record Rule : Type 0 where
   pub lengths : Bool
   -- its own refusals, in their order: tests of its arguments, on the screen
   pub own : Screen → List (ℕ × Bool)
-  -- what it does to the screen, the bit of document 02, (l), aside; and the bytes that decide about the bit, which on another screen may be more or fewer
+  -- what it does to the screen, the bit of document 02, (l), aside; and of a print the bytes that it takes, which decide about the bit
   pub apply : Screen → Screen
   pub printed : Screen → Printed
   -- the text handed out, and the number answered

@@ -1,4 +1,4 @@
--- From the test of a record to document 01's conditions, and back.
+-- From the test of a record to the documents' conditions, and back.
 -- Assumes nothing.
 use Prim.Native.Nat.{ℕ, _+_, _-_, _*_, _≤_, _<_}
 use mathlib.Core.Path.{_≡_, sym, ap, _∙_}

@@ -1,4 +1,4 @@
--- From the test of a mirror to document 01's conditions, and back.
+-- From the test of a mirror to the documents' conditions, and back.
 -- Assumes nothing.
 use Prim.Native.Nat.{ℕ}
 use mathlib.Core.Path.{_≡_, ap}

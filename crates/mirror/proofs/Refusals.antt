@@ -1,4 +1,4 @@
--- New mirror and an arrival are refused exactly by document 01's conditions, in the order of refusals, and do what the rules say otherwise.
+-- New mirror and an arrival are refused exactly by the documents' conditions, in the order of refusals, and do what the rules say otherwise.
 -- Assumes nothing.
 use Prim.Native.Nat.{ℕ, _+_, _≤_, _<_}
 use mathlib.Core.Path.{_≡_, refl, sym, ap, _∙_, subst}

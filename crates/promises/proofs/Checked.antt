@@ -1,4 +1,4 @@
--- The examples of document 01, computed.
+-- The documents' examples, computed.
 -- Assumes nothing.
 use mathlib.Core.Path.{_≡_, refl}
 use mathlib.Core.Bool.{true}

@@ -1,3 +1,3 @@
--- What is promised, on one page, and document 01's examples.
+-- What is promised, on one page, and the documents' examples.
 pub mod Examples
 pub mod Promises

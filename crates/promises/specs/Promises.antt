@@ -48,8 +48,8 @@ pub record Promises : Type 0 where
   -- "New: length, version and width set, spaces of attribute 7 inside W, current attribute 7, keys on, rest zero", and by document 02, (c), "Each new screen gets
   -- a sitting number from the host, 32 bits": that is a valid record, of whatever sitting
   pub new-valid : (w sitting : ℕ) → sitting < SERIALS → ValidRecord (stateBytes (newState w sitting))
-  -- "Valid: cursor row below E, column below W, flags and switches 0 or 1, touched below 2^25, characters inside W 27 or at least 32, all bytes beyond W zero":
-  -- an accepted call on a valid record leaves a valid record
+  -- "Valid: cursor row below E, column below W, flags and switches 0 or 1, touched below 2^25, characters inside W 27 or at least 32, all bytes beyond W zero",
+  -- and by document 02, (l), "Byte 6 of the screen record, now 0 to 3": an accepted call on a valid record leaves a valid record
   pub kept-valid : (c : Call) (l : List ℕ) → every isByte l ≡ true → ValidRecord l → isRefusal (changing c l .number) ≡ false → ValidRecord (changing c l .rec)
   -- "An accepted changing call adds 1 to the serial"; by document 02, (c), in the sitting that the new screen got
   pub sitting-kept : (c : Call) (l : List ℕ) → every isByte l ≡ true → ValidRecord l → isRefusal (changing c l .number) ≡ false

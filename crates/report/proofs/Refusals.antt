@@ -1,4 +1,4 @@
--- A report call is refused exactly by document 01's conditions, in the order of refusals, and does what the rules say otherwise.
+-- A report call is refused exactly by the documents' conditions, in the order of refusals, and does what the rules say otherwise.
 -- Assumes nothing.
 use Prim.Native.Nat.{ℕ}
 use mathlib.Core.Path.{refl, ap}

@@ -108,7 +108,7 @@ impl Sitting {
         Ok(accepted)
     }
 
-    /// A report made through the archive, compared with what document 01 makes of the Rust's screen.
+    /// A report made through the archive, compared with what the documents make of the Rust's screen.
     fn report(&mut self, kind: Kind, turn: usize) -> Result<Made, String> {
         let out = filler(REPORT + turn % 3, turn);
         let mut lent_out = Lent::new(&out);

@@ -1,7 +1,7 @@
 //! Texts that are printed in pieces: checked prints in turn against one print of the whole, and against the Rust's.
 //!
 //! Document 02, (l): "checked prints in turn, if accepted, leave the cells, flags and cursor of one print of their inputs together". Which are
-//! refused is worked out from the bytes alone, without the record's bit. A piece that is refused is printed again as docs/ABI.md has it, with an
+//! refused is worked out from the bytes alone, and of the record's bit only as it was at the start. A piece that is refused is printed again as docs/ABI.md has it, with an
 //! ignored byte in the place of its 10: so all pieces are taken in the end, and the last screen is compared in either case.
 use crate::call::{literal, Call};
 use crate::exhaustive::strings_over;
@@ -12,7 +12,7 @@ use crate::oracle::{self, TextScreen};
 use crate::random::try_all;
 use crate::records::{self, Sketch};
 use crate::tally::Tally;
-use crate::trial::{self, Lent};
+use crate::trial;
 use proptest::collection::vec;
 use proptest::strategy::Strategy;
 use std::fmt;
@@ -169,18 +169,14 @@ fn in_turn(inputs: &[&[u8]], start: &[u8], whole: &Whole, tally: &mut Tally) -> 
     }
 }
 
-/// One checked print, which must answer this; refused, it may change nothing.
+/// One checked print, compared as every call is; and it must answer this.
 fn print_checked(input: &[u8], wanted: u32, rec: &mut Vec<u8>, tally: &mut Tally) -> Result<(), String> {
     let call = Call::PrintChecked(input.to_vec());
-    let mut lent = Lent::new(rec);
-    let answer = call.make(lent.bytes_mut(), &mut []);
-    if answer != wanted {
-        return Err(format!("{call} answers {answer}, wanted is {wanted}"));
+    let made = trial::single(&call, rec, &[]).map_err(|difference| format!("{call}: {difference}"))?;
+    if made.answer != wanted {
+        return Err(format!("{call} answers {}, wanted is {wanted}", made.answer));
     }
-    if answer > judge::refused(0) && lent.bytes() != rec {
-        return Err(format!("{call} is refused, and changes the record"));
-    }
-    tally.count(&call, rec, answer);
-    *rec = lent.bytes().to_vec();
+    tally.count(&call, rec, made.answer);
+    *rec = made.rec;
     Ok(())
 }

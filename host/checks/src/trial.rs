@@ -35,7 +35,7 @@ pub fn filler(len: usize, turn: usize) -> Vec<u8> {
     (0..len).map(|k| (k * 37 + turn * 101 + 11) as u8).collect()
 }
 
-/// Makes the call on copies of `rec` and `out`, and compares answer and bytes with what document 01 and the Rust say.
+/// Makes the call on copies of `rec` and `out`, and compares answer and bytes with what the documents and the Rust say.
 pub fn single(call: &Call, rec: &[u8], out: &[u8]) -> Result<Outcome, String> {
     let want = judge::outcome(call, rec, out);
     let (mut lent, mut lent_out) = (Lent::new(rec), Lent::new(out));

@@ -112,7 +112,7 @@ pub(crate) fn brief(name: &str, shown: &impl Shown, f: &mut fmt::Formatter) -> f
         .finish_non_exhaustive()
 }
 
-/// The answer of a call that document 01 does not refuse on bytes that keep their layout.
+/// The answer of a call that the documents do not refuse on bytes that keep their layout.
 pub(crate) fn kept(answer: u32) -> u32 {
     Refusal::of_answer(answer).expect("the bytes keep their layout")
 }

@@ -135,7 +135,7 @@ fn pairs_are_ordered_by_the_sitting_first() {
 fn a_mirror_follows_a_restart() {
     let pair = |sitting, serial| Pair { sitting, serial };
     let (mut first, mut mirror) = (Screen::new(40, 3), Mirror::new(40, 3));
-    first.print_bytes(b"WARD 7").unwrap();
+    first.print_checked(b"WARD 7").unwrap();
     assert_eq!(mirror.arrive(first.report_step()), Ok(true));
 
     let mut second = Screen::new(80, 4);
@@ -194,7 +194,7 @@ fn what_is_typed_is_shown() {
     let mut screen = Screen::new(80, 3);
     assert_eq!((screen.width(), screen.cursor(), screen.attr(), screen.insert_mode()), (80, (0, 0), 7, false));
     screen.set_attr(0x1e).unwrap();
-    screen.print_bytes(b"AB").unwrap();
+    screen.print_checked(b"AB").unwrap();
     screen.move_left().unwrap();
     screen.set_insert(true).unwrap();
     screen.type_char(b'X').unwrap();

@@ -34,7 +34,7 @@ impl Pane {
     /// Starts a command in a terminal of this size, with a tmux server of its own.
     pub fn start(name: &str, cols: usize, rows: usize, command: &str) -> Self {
         let pane = Self { folder: Folder::new(name) };
-        fs::create_dir(pane.folder.0.join("futonrobin")).unwrap();
+        fs::create_dir_all(pane.folder.0.join("futonrobin")).unwrap();
         fs::write(pane.folder.0.join("futonrobin/sitting"), LAST_SITTING.to_string()).unwrap();
         let (cols, rows) = (cols.to_string(), rows.to_string());
         pane.tmux(&["-f", "/dev/null", "new-session", "-d", "-x", &cols, "-y", &rows, command]);

@@ -59,8 +59,8 @@ fn over_udp() {
     second.wait_for("the invigilator shows call 15 of 15");
 
     invigilator.press("PPage");
-    let past = invigilator.wait("the earlier screen", |shown| first_row(shown) == "40 WARD 9, BED 3" && shown.has("NOT CURRENT: sitting"));
-    assert!(past.has("shows call 16 of 16") && past.has("PageDown: newer") && past.has("current: sitting "));
+    let past = ["NOT CURRENT: sitting", "PageDown: newer", "shows call 16 of 16", "current: sitting "];
+    invigilator.wait("the earlier screen", |shown| first_row(shown) == "40 WARD 9, BED 3" && past.iter().all(|text| shown.has(text)));
     second.write("!");
     invigilator
         .wait("the mirror follows meanwhile", |shown| first_row(shown) == "40 WARD 9, BED 3" && shown.has(", call 16 of 16  LEVEL, "));
