@@ -33,6 +33,10 @@ extern "C" {
 #define FUTONROBIN_SNAPSHOT_MIN 2024u
 #define FUTONROBIN_REPORT_MIN 4047u
 
+/* The most that screen_print_waiting takes: bytes, and rows of its limit. */
+#define FUTONROBIN_WAITING_MAX 65535u
+#define FUTONROBIN_WAITING_ROWS_MAX 1000u
+
 /*
  * Where the mirror's screen record begins: it is mir + FUTONROBIN_MIRROR_RECORD, of length FUTONROBIN_SCREEN_LEN. Reading and
  * text calls take it as any record, and no other call should be made on it: a changing call would be accepted, and the
@@ -44,8 +48,8 @@ extern "C" {
  * Byte FUTONROBIN_BITS_AT of a screen record has two bits, which no call answers. It may be 0 to 3, so the bit is to be tested and not
  * the byte: rec[FUTONROBIN_BITS_AT] & FUTONROBIN_INSERT_BIT.
  *
- * FUTONROBIN_CR_BIT is set by a print whose last byte is 13, left by a print of no bytes, and cleared by every other print and every other
- * changing call that is accepted.
+ * FUTONROBIN_CR_BIT is set by a print whose last byte taken is 13, left by a print that takes no byte, and cleared by every other print and every
+ * other changing call that is accepted. Only screen_print_waiting takes less than it is given.
  */
 #define FUTONROBIN_BITS_AT 6u
 #define FUTONROBIN_INSERT_BIT 1u /* typing inserts */
@@ -61,6 +65,7 @@ enum {
     FUTONROBIN_WRONG_LENGTH = 1,
     FUTONROBIN_BROKEN_LAYOUT = 2,   /* of a screen, mirror or key table */
     FUTONROBIN_OUT_OF_RANGE = 3,    /* a number */
+    FUTONROBIN_LONG_INPUT = 7,      /* a waiting print is given more than FUTONROBIN_WAITING_MAX bytes */
     FUTONROBIN_SPLIT_LINE_END = 13, /* a checked print begins with 10 while FUTONROBIN_CR_BIT is set */
     FUTONROBIN_SPENT_SERIAL = 4,    /* a changing call found serial 4,294,967,295 */
     FUTONROBIN_BROKEN_REPORT = 5,   /* its length included */
@@ -85,7 +90,7 @@ uint32_t screen_new(uint8_t *rec, size_t rec_len, uint32_t width, uint32_t sitti
 
 /*
  * ---- Changing calls: each adds 1 to the serial, keeps the sitting and answers 0, but screen_take_logical_line the length of
- * its text.
+ * its text, and screen_print_waiting how far it came.
  */
 
 /*
@@ -100,6 +105,27 @@ uint32_t screen_print_bytes(uint8_t *rec, size_t rec_len, const uint8_t *bytes, 
  * printed that is ignored, as 0, and then the rest of the piece.
  */
 uint32_t screen_print_checked(uint8_t *rec, size_t rec_len, const uint8_t *bytes, size_t bytes_len);
+
+/*
+ * Prints as screen_print_bytes does, but stops before the byte that would scroll one row more than rows, which is 0 to FUTONROBIN_WAITING_ROWS_MAX.
+ * Answers how many bytes were taken + 65,536 * how many rows were scrolled. The bytes that are left over are for the next call; after them the screen
+ * looks as if all were printed at once. A call that takes nothing is accepted too.
+ *
+ * More than FUTONROBIN_WAITING_MAX bytes are refused. Who cuts a longer text does not cut between a 13 and its 10: this call does not look at
+ * FUTONROBIN_CR_BIT.
+ */
+uint32_t screen_print_waiting(uint8_t *rec, size_t rec_len, const uint8_t *bytes, size_t bytes_len, uint32_t rows);
+
+/* The bytes taken and the rows scrolled, of an answer of screen_print_waiting that is no refusal. */
+static inline uint32_t futonrobin_taken(uint32_t answer)
+{
+    return answer % 65536u;
+}
+
+static inline uint32_t futonrobin_scrolled(uint32_t answer)
+{
+    return answer / 65536u;
+}
 
 /* A character 0 to 255; those below 32 but 27 type nothing. */
 uint32_t screen_type_char(uint8_t *rec, size_t rec_len, uint32_t ch);

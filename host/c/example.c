@@ -1,6 +1,6 @@
 /*
  * A C host in short: a heading is printed in pieces and a line typed and changed on a screen of 40 columns, and a mirror follows by reports,
- * one of which comes late. Then the terminal restarts, and the mirror follows that too.
+ * one of which comes late. Then the terminal restarts, and the mirror follows that too; and a list is printed there that is longer than the screen.
  *
  *   cc -std=c99 -Wall -Wextra -pedantic -Werror -Iinclude host/c/example.c target/staticlib/libapi.a -o example
  *
@@ -131,11 +131,43 @@ static void second_sitting(void)
     show("mirror", mirror + FUTONROBIN_MIRROR_RECORD);
 }
 
+/* So many bytes of a text as one call takes, without parting a 13 from its 10. */
+static size_t piece_of(const char *text, size_t length)
+{
+    if (length <= FUTONROBIN_WAITING_MAX) {
+        return length;
+    }
+    size_t cut = FUTONROBIN_WAITING_MAX;
+    return text[cut - 1] == '\r' && text[cut] == '\n' ? cut - 1 : cut;
+}
+
+/* A list that is longer than the screen: each call scrolls all but one row at most, and then a reader would press a key. */
+static void long_list(void)
+{
+    char list[60 * sizeof "Bed 60: free\r\n"];
+    size_t length = 0;
+    for (int bed = 1; bed <= 60; bed++) {
+        length += (size_t)sprintf(list + length, "Bed %d: free\r\n", bed);
+    }
+
+    changed("clear", screen_clear(screen, sizeof screen), ARRIVES);
+    uint32_t rows = accepted("screen_editable_rows", screen_editable_rows(screen, sizeof screen)) - 1;
+    for (size_t at = 0; at < length;) {
+        size_t piece = piece_of(list + at, length - at);
+        uint32_t answer = screen_print_waiting(screen, sizeof screen, (const uint8_t *)list + at, piece, rows);
+        changed("print", answer, ARRIVES);
+        const char *then = futonrobin_taken(answer) < piece ? "a key is awaited" : "all is taken";
+        printf("%" PRIu32 " bytes taken, %" PRIu32 " rows scrolled, %s\n", futonrobin_taken(answer), futonrobin_scrolled(answer), then);
+        at += futonrobin_taken(answer);
+    }
+}
+
 int main(void)
 {
     first_sitting();
     printf("restart\n");
     second_sitting();
+    long_list();
 
     /* Refused, and the screen is as it was: there is nothing to report. */
     uint32_t answer = screen_type_char(screen, sizeof screen, 256);

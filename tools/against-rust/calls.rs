@@ -1,5 +1,6 @@
-//! The 25 changing calls: made on the Rust screen, and written for antt.
+//! The 26 changing calls: made on the Rust screen, and written for antt.
 
+use super::waiting::Waited;
 use crate::screen::Screen;
 use std::fmt::Write;
 
@@ -7,6 +8,8 @@ use std::fmt::Write;
 pub enum Call {
     PrintBytes(Vec<u8>),
     PrintChecked(Vec<u8>),
+    /// Bytes, a limit, and what is made of them where the call stands.
+    PrintWaiting(Vec<u8>, usize, Waited),
     TypeChar(u8),
     Backspace,
     DeleteChar,
@@ -34,10 +37,11 @@ pub enum Call {
 use Call::*;
 
 impl Call {
-    /// Makes the call, and answers the text that it hands out. A checked print is the Rust's print.
+    /// Makes the call, and answers the text that it hands out. A checked print is the Rust's print, a waiting one its print of the bytes that are taken.
     pub fn make(&self, screen: &mut Screen) -> Vec<u8> {
         match self {
             PrintBytes(bytes) | PrintChecked(bytes) => screen.print_bytes(bytes),
+            PrintWaiting(bytes, _, waited) => screen.print_bytes(&bytes[..waited.taken]),
             TypeChar(ch) => screen.type_char(*ch),
             Backspace => screen.backspace(),
             DeleteChar => screen.delete_char(),
@@ -65,11 +69,20 @@ impl Call {
         Vec::new()
     }
 
+    /// The number that the call answers, if it hands out this text.
+    pub fn answer(&self, submitted: &[u8]) -> u64 {
+        match self {
+            PrintWaiting(_, _, waited) => waited.answer(),
+            _ => submitted.len() as u64,
+        }
+    }
+
     /// The call as antt reads it.
     pub fn antt(&self) -> String {
         match self {
             PrintBytes(bytes) => format!("PrintBytes ({})", packed(bytes)),
             PrintChecked(bytes) => format!("PrintChecked ({})", packed(bytes)),
+            PrintWaiting(bytes, rows, _) => format!("PrintWaiting ({}) {rows}", packed(bytes)),
             TypeChar(ch) => format!("TypeChar {ch}"),
             TakeLogicalLine => "TakeLogicalLine line".to_string(),
             SetWidth(width) => format!("SetWidth {width}"),

@@ -8,6 +8,7 @@ mod calls;
 mod chance;
 mod scenes;
 mod seen;
+mod waiting;
 
 use scenes::List;
 

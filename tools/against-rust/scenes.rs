@@ -6,6 +6,7 @@
 use super::calls::Call::{self, *};
 use super::chance::Chance;
 use super::seen::{rows_of, seen, touched, Stamp, ROWS};
+use super::waiting::Waited;
 use crate::screen::Screen;
 
 pub struct List {
@@ -38,7 +39,7 @@ impl List {
             first_width,
             sitting,
             calls: Vec::new(),
-            sums: vec![seen(&screen, &rows_of(&screen), &stamp, &[])],
+            sums: vec![seen(&screen, &rows_of(&screen), &stamp, 0, &[])],
             length,
             fixed_width,
             screen,
@@ -60,6 +61,7 @@ impl List {
         let submitted = call.make(&mut self.screen);
         let after = rows_of(&self.screen);
         self.ended_in_cr = ended_in_cr_after(&call, self.ended_in_cr);
+        let answer = call.answer(&submitted);
         self.calls.push(call);
         let stamp = Stamp {
             sitting: self.sitting,
@@ -68,11 +70,11 @@ impl List {
             ended_in_cr: self.ended_in_cr,
         };
         self.sums
-            .push(seen(&self.screen, &after, &stamp, &submitted));
+            .push(seen(&self.screen, &after, &stamp, answer, &submitted));
     }
 
     fn scene(&mut self) {
-        match self.chance.below(30) {
+        match self.chance.below(33) {
             0..=3 => self.any_call(),
             4..=6 => self.key(),
             7 | 8 => self.corner(),
@@ -87,6 +89,7 @@ impl List {
             23 => self.recoloured_line(),
             24 | 25 => self.tabs(),
             26 | 27 => self.parted_line_ends(),
+            28..=30 => self.waiting_prints(),
             _ => self.words(),
         }
     }
@@ -379,6 +382,47 @@ impl List {
         }
     }
 
+    /// A waiting print. What it takes is found out on the screen as it is now, made anew from its calls, since it cannot be copied.
+    fn print_waiting(&mut self, text: Vec<u8>, rows: usize) -> Waited {
+        let mut screen = Screen::new(self.first_width);
+        for call in &self.calls {
+            call.make(&mut screen);
+        }
+        let waited = Waited::on(screen, &text, rows);
+        self.call(PrintWaiting(text, rows, waited));
+        waited
+    }
+
+    /// Waiting prints, from the last rows for the most part, and after a row that was filled to its end there. At times what one leaves over is printed.
+    fn waiting_prints(&mut self) {
+        let (up, back) = (self.chance.below(3), 1 + self.chance.below(20));
+        match self.chance.below(6) {
+            0 => {}
+            1 => {
+                self.go(ROWS - 1, 0);
+                self.print_letters(self.width());
+            }
+            2 => self.go(ROWS - 1 - up, 0),
+            _ => self.go(ROWS - 1 - up, self.width() - back),
+        }
+        for _ in 0..1 + self.chance.below(3) {
+            let length = self.chance.below(41);
+            let mut text = match self.chance.below(4) {
+                0 => self.chance.letters(length),
+                1 => self.chance.characters(length),
+                _ => self.chance.some_of(&[13, 10, 13, 10, 32, 65, 7], length),
+            };
+            let limits = [0, 0, 1, 1, 2, 3, 5, 24, 1000];
+            let rows = self.chance.one_of(&limits);
+            let waited = self.print_waiting(text.clone(), rows);
+            text.drain(..waited.taken);
+            if !text.is_empty() && self.chance.coin() {
+                let rows = self.chance.one_of(&limits);
+                self.print_waiting(text, rows);
+            }
+        }
+    }
+
     /// Short words over row ends, of the first and last letters and digits, between the characters next to those.
     fn words(&mut self) {
         let (row, col) = (self.row(), self.column());
@@ -397,8 +441,10 @@ impl List {
 /// Document 02, (l): the bit "is set by a print whose last byte taken is 13, left by one that takes none and cleared by every other
 /// changing call".
 fn ended_in_cr_after(call: &Call, before: bool) -> bool {
+    let ends_in_cr = |taken: &[u8]| taken.last().map_or(before, |&last| last == 13);
     match call {
-        PrintBytes(bytes) | PrintChecked(bytes) => bytes.last().map_or(before, |&last| last == 13),
+        PrintBytes(bytes) | PrintChecked(bytes) => ends_in_cr(bytes),
+        PrintWaiting(bytes, _, waited) => ends_in_cr(&bytes[..waited.taken]),
         _ => false,
     }
 }

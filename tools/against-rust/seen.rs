@@ -46,9 +46,10 @@ pub struct Stamp {
 }
 
 /// All that can be seen of a screen after a call, in the order of `seen` in `agrees.antt.txt`.
-pub fn seen(screen: &Screen, rows: &[Row], stamp: &Stamp, submitted: &[u8]) -> u64 {
+pub fn seen(screen: &Screen, rows: &[Row], stamp: &Stamp, answer: u64, submitted: &[u8]) -> u64 {
     let (row, col) = screen.cursor();
     let mut items = vec![
+        answer,
         sum_of_bytes(submitted),
         screen.width() as u64,
         row as u64,

@@ -6,7 +6,7 @@ use calls::print;
 use calls::tab;
 use calls::typing;
 use calls::words;
-ghost use Rattle.editor.specs.Call.{PrintBytes, PrintChecked, TypeChar, Backspace, DeleteChar, EraseToEnd, EscapeLine, Tab, CtrlEnter, TakeLogicalLine, BreakLine, MoveLeft, MoveRight, MoveUp, MoveDown, Home, WordLeft, WordRight, EndOfLine, Clear, SetWidth, SetCursor, SetInsert, SetAttr, SetKeysOn};
+ghost use Rattle.editor.specs.Call.{PrintBytes, PrintChecked, PrintWaiting, TypeChar, Backspace, DeleteChar, EraseToEnd, EscapeLine, Tab, CtrlEnter, TakeLogicalLine, BreakLine, MoveLeft, MoveRight, MoveUp, MoveDown, Home, WordLeft, WordRight, EndOfLine, Clear, SetWidth, SetCursor, SetInsert, SetAttr, SetKeysOn};
 ghost use Rattle.editor.specs.Outcome.{changing};
 ghost use Rattle.calls.specs.Answers.{Answers, Submits};
 
@@ -22,6 +22,13 @@ pub extern "C" fn screen_print_checked(rec: &mut [u8], bytes: &[u8]) -> u32
     ensures { λ n. ⌜ Answers (changing (PrintChecked (now (bytes .entry))) (now (rec .entry))) n (now (rec .exit)) ⌝ }
 {
     print::print_checked(rec, bytes)
+}
+
+#[no_mangle]
+pub extern "C" fn screen_print_waiting(rec: &mut [u8], bytes: &[u8], rows: u32) -> u32
+    ensures { λ n. ⌜ Answers (changing (PrintWaiting (now (bytes .entry)) rows) (now (rec .entry))) n (now (rec .exit)) ⌝ }
+{
+    print::print_waiting(rec, bytes, rows)
 }
 
 #[no_mangle]

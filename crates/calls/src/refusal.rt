@@ -1,10 +1,13 @@
 // The refusals of changing calls, beside those that all calls on a record share.
 use bytes::answer::REFUSED;
 use editor::print;
+use grid::refusal::range_refused;
 use grid::refusal::record_refused;
 ghost use mathlib.Core.Path.{_≡_};
 ghost use mathlib.Core.Bool.{true};
+ghost use mathlib.Core.List.{[], _∷_};
 ghost use lib.ListN.{length};
+ghost use Rattle.bytes.specs.Refusals.{firstOf, refusedWith};
 ghost use Rattle.grid.specs.Layout.{SIZE};
 ghost use Rattle.calls.specs.Parts.{lateAnswer, changeAnswer, splitAnswer};
 
@@ -57,4 +60,15 @@ pub fn checked_refused(rec: &[u8], bytes: &[u8]) -> u32
         return n;
     }
     late_refused(rec, split_refused(rec, bytes))
+}
+
+// What the waiting print's own refusals answer, else 0. few: the limit of rows is in range; fits: the input is not too long.
+pub fn waiting_refused(few: bool, fits: bool) -> u32
+    ensures { λ n. ⌜ n ≡ refusedWith (firstOf ((3, few) ∷ (7, fits) ∷ [])) ⌝ }
+{
+    let n = range_refused(few);
+    if n != 0 {
+        return n;
+    }
+    if fits { 0 } else { REFUSED + 7 }
 }

@@ -1,39 +1,33 @@
 -- Checked prints in turn, if accepted, leave the screen that one print of their inputs together leaves.
 -- Assumes nothing.
-use Prim.Native.Nat.{ℕ, _≤_, _<_}
+use Prim.Native.Nat.{ℕ}
 use mathlib.Core.Path.{_≡_, refl, sym, ap, _∙_, subst}
 use mathlib.Core.Bool.{Bool, true, false, not, _&&_}
 use mathlib.Core.List.{List, [], _∷_, _++_}
-use mathlib.Core.Logic.{_≢_, ⊎-elim}
-use native.Mathlib.Omega.{arith}
+use mathlib.Core.Logic.{inl, inr, ⊎-elim}
 use lib.Dec.{eqb}
-use lib.ListN.{length, getD, take, drop}
+use lib.ListN.{length, getD, take}
 use lib.Seq.{take-length}
 use borrow.Author.Tests.{not-true}
-use Rattle.bytes.specs.Choice.{if_then_else_}
-use Rattle.bytes.specs.Answer.{refused, isRefusal}
+use Rattle.bytes.specs.Answer.{isRefusal}
 use Rattle.bytes.specs.Refusals.{allPass}
-use Rattle.bytes.proofs.Bools.{and-left, and-right, and-both, and-false, left-false, and-cases, either}
-use Rattle.bytes.proofs.Found.{is-accepted, small-accepted}
-use Rattle.grid.specs.Screen.{Screen, State, withBit}
-use Rattle.grid.specs.Layout.{SIZE}
-use Rattle.grid.specs.Record.{serialOf, screenOf, readState, stateBytes}
-use Rattle.grid.specs.Conditions.{ValidRecord}
+use Rattle.bytes.proofs.Bools.{and-left, and-right, and-both, and-false, left-false, and-cases}
+use Rattle.bytes.proofs.Found.{is-accepted}
+use Rattle.grid.specs.Screen.{Screen, State}
+use Rattle.grid.specs.Record.{screenOf, readState, stateBytes}
 use Rattle.grid.specs.Facts.{StateFacts}
 use Rattle.grid.proofs.Bytes.{state-back, bytes-back}
-use Rattle.grid.proofs.Conditions.{conditions-record, record-facts}
-use Rattle.grid.proofs.Validity.{facts-valid}
+use Rattle.grid.proofs.Conditions.{conditions-record}
 use Rattle.editor.specs.Print.{print, splits}
 use Rattle.editor.specs.Call.{Call, rule, output, own, inRange, apply, submitted, answer, lastCr, crLeft, crAfter, afterCall, step}
 use Rattle.editor.specs.Call.Call.{PrintBytes, PrintChecked}
-use Rattle.editor.specs.Outcome.{LAST-SERIAL, changing}
-use Rattle.editor.specs.Refusals.{ChangeRefused}
-use Rattle.editor.specs.Refusals.ChangeRefused.{record-length, layout, last-serial}
+use Rattle.editor.specs.Outcome.{changing}
 use Rattle.editor.specs.Lists.{accepted, recordLeft, screenLeft, steps}
 use Rattle.editor.specs.CheckedPrints.{inTurn, together, CheckedPrints}
-use Rattle.editor.proofs.PrintParts.{print-bit, print-parts, last-append}
-use Rattle.editor.proofs.Refusals.{changing-answers, change-none, going}
-use Rattle.editor.proofs.Lists.{change-refused, change-accepted, state-of, calls-left, calls-facts, steps-screen}
+use Rattle.editor.proofs.PrintParts.{two-prints}
+use Rattle.editor.proofs.Refusals.{changing-answers}
+use Rattle.editor.proofs.OnePrint.{also-accepted, left-by-one}
+use Rattle.editor.proofs.Lists.{change-accepted, state-of, calls-left, calls-facts, steps-screen, all-accepted}
 
 -- ---- on screens
 
@@ -58,14 +52,6 @@ not-parted (a ∷ as′) bs s e =
     let set : Bool = eqb (lastCr 0 (a ∷ as′)) 1 in
     ⊎-elim (and-false set ten) (left-false set ten) (and-cases ten set e)
 
-two-prints : (as′ bs : List ℕ) (s : Screen) → splits (afterCall (PrintBytes as′) s) bs ≡ false
-    → afterCall (PrintBytes bs) (afterCall (PrintBytes as′) s) ≡ afterCall (PrintBytes (as′ ++ bs)) s
-unfolding afterCall crAfter crLeft apply rule
-two-prints as′ bs s e =
-    let first : ℕ = lastCr (s .head .cr) as′ in
-    let both = print-bit first bs false (print false s as′) ∙ ap (λ (x : Screen). withBit x first) (sym (print-parts as′ bs s (not-parted as′ bs s e))) in
-    λ i. withBit (both i) (sym (last-append as′ bs (s .head .cr)) i)
-
 -- so the checked prints leave what one print leaves
 one-print : (inputs : List (List ℕ)) (s : Screen) → noneSplits s inputs ≡ true → screenLeft s (inTurn inputs) ≡ afterCall (PrintBytes (together inputs)) s
 unfolding noneSplits inTurn together screenLeft afterCall crAfter crLeft lastCr apply rule print
@@ -73,22 +59,9 @@ one-print [] s w = refl
 one-print (bs ∷ inputs) s w =
     let t : Screen = afterCall (PrintBytes bs) s in
     let rest : noneSplits t inputs ≡ true = and-right (not (splits s bs)) _ w in
-    one-print inputs t rest ∙ two-prints bs (together inputs) s (first-byte inputs t rest)
+    one-print inputs t rest ∙ two-prints bs (together inputs) s (not-parted bs (together inputs) s (first-byte inputs t rest))
 
 -- ---- on records
-
-accepted-fewer : (cs : List Call) (l : List ℕ) → length (accepted l cs) ≤ length cs
-unfolding accepted
-accepted-fewer [] l = omega arith
-accepted-fewer (c ∷ cs) l =
-    let ih = accepted-fewer cs (changing c l .rec) in
-    either (λ (ds : List Call). length ds ≤ length (c ∷ cs)) _ _ _ (omega arith) (omega arith)
-
--- if all are accepted, the first is, and so are the others
-all-accepted : (r : Bool) (c : Call) (cs ds : List Call) → length ds ≤ length cs → (if r then ds else c ∷ ds) ≡ c ∷ cs → (r ≡ false) × (ds ≡ cs)
-unfolding if_then_else_
-all-accepted true c cs ds h e = absurd (let n = ap length e in omega arith)
-all-accepted false c cs ds h e = (refl, ap (drop 1) e)
 
 -- of accepted checked prints none splits
 all-unsplit : (inputs : List (List ℕ)) (t : State) → StateFacts t → accepted (stateBytes t) (inTurn inputs) ≡ inTurn inputs → noneSplits (t .screen) inputs ≡ true
@@ -96,7 +69,7 @@ unfolding noneSplits inTurn accepted step inRange own rule allPass
 all-unsplit [] t f e = refl
 all-unsplit (bs ∷ inputs) t f e =
     let c : Call = PrintChecked bs in
-    let a = all-accepted (isRefusal (changing c (stateBytes t) .number)) c (inTurn inputs) _ (accepted-fewer (inTurn inputs) (changing c (stateBytes t) .rec)) e in
+    let a = all-accepted c (inTurn inputs) (stateBytes t) e in
     let p = change-accepted c t f (a .0) in
     and-both (not (splits (t .screen) bs)) _ (and-left (not (splits (t .screen) bs)) true (p .in-range))
     (all-unsplit inputs (step c t) (p .facts) (rw (p .left) at (a .1)))
@@ -114,52 +87,20 @@ module _ (inputs : List (List ℕ)) (t : State) (f : StateFacts t) (e : accepted
 
 -- ---- the one print
 
--- it is refused for the record's sake alone, or the serial's
-print-accepted : (bs l : List ℕ) → length l ≡ SIZE → ValidRecord l → serialOf l ≢ LAST-SERIAL → changing (PrintBytes bs) l .number < refused 1
-print-accepted bs l size v last = changing-answers (PrintBytes bs) l .number .accepted .1 none
-  where
-    none : (k : ℕ) → ¬ ChangeRefused (PrintBytes bs) l k
-    none k (record-length n) = n size
-    none k (layout n) = n v
-    none k (last-serial e) = last e
-
--- where a checked print is accepted, the other one is
-also-accepted : (as′ bs l : List ℕ) → changing (PrintChecked bs) l .number < refused 1 → changing (PrintBytes as′) l .number < refused 1
-also-accepted as′ bs l h =
-    let g = going (PrintChecked bs) l (change-none (PrintChecked bs) l h) in
-    print-accepted as′ l (g .start .size) (record-facts l (facts-valid l (g .start .valid))) (g .serial)
+one-left : (inputs : List (List ℕ)) (t : State) → StateFacts t → accepted (stateBytes t) (inTurn inputs) ≡ inTurn inputs
+    → screenOf (changing (PrintBytes (together inputs)) (stateBytes t) .rec) ≡ afterCall (PrintBytes (together inputs)) (t .screen)
+unfolding inTurn together
+one-left [] t f e = left-by-one [] t f (inl refl)
+one-left (bs ∷ inputs) t f e =
+    let c : Call = PrintChecked bs in
+    let a = all-accepted c (inTurn inputs) (stateBytes t) e in
+    left-by-one (bs ++ together inputs) t f (inr (also-accepted c (bs ++ together inputs) (stateBytes t) (is-accepted _ (a .0))))
 
 as-print : (bs l : List ℕ) → isRefusal (changing (PrintChecked bs) l .number) ≡ false → changing (PrintChecked bs) l ≡ changing (PrintBytes bs) l
 unfolding answer submitted output step afterCall crAfter apply rule
 as-print bs l e =
     let h = is-accepted _ e in
-    changing-answers (PrintChecked bs) l .done h ∙ sym (changing-answers (PrintBytes bs) l .done (also-accepted bs bs l h))
-
-module _ (bs : List ℕ) (t : State) (f : StateFacts t) where
-  left-by-one : isRefusal (changing (PrintBytes bs) (stateBytes t) .number) ≡ false
-      → screenOf (changing (PrintBytes bs) (stateBytes t) .rec) ≡ afterCall (PrintBytes bs) (t .screen)
-  unfolding readState step
-  left-by-one e =
-      let p = change-accepted (PrintBytes bs) t f e in
-      ap screenOf (p .left) ∙ ap (λ (x : State). x .screen) (state-back _ (p .facts))
-
--- refused, it leaves the record; and then there was no input
-one-left : (inputs : List (List ℕ)) (t : State) → StateFacts t → accepted (stateBytes t) (inTurn inputs) ≡ inTurn inputs
-    → screenOf (changing (PrintBytes (together inputs)) (stateBytes t) .rec) ≡ afterCall (PrintBytes (together inputs)) (t .screen)
-unfolding inTurn together accepted
-one-left [] t f e = go (isRefusal (changing (PrintBytes []) (stateBytes t) .number)) refl
-  where
-    go : (r : Bool) → isRefusal (changing (PrintBytes []) (stateBytes t) .number) ≡ r
-        → screenOf (changing (PrintBytes []) (stateBytes t) .rec) ≡ afterCall (PrintBytes []) (t .screen)
-    go true q =
-        ap screenOf (change-refused (PrintBytes []) (stateBytes t) q)
-        ∙ (unfold readState afterCall crAfter crLeft lastCr apply rule print in ap (λ (x : State). x .screen) (state-back t f))
-    go false q = left-by-one [] t f q
-one-left (bs ∷ inputs) t f e =
-    let c : Call = PrintChecked bs in
-    let a = all-accepted (isRefusal (changing c (stateBytes t) .number)) c (inTurn inputs) _ (accepted-fewer (inTurn inputs) (changing c (stateBytes t) .rec)) e in
-    let h = also-accepted (bs ++ together inputs) bs (stateBytes t) (is-accepted _ (a .0)) in
-    left-by-one (bs ++ together inputs) t f (small-accepted _ (omega (arith, h)))
+    changing-answers (PrintChecked bs) l .done h ∙ sym (changing-answers (PrintBytes bs) l .done (also-accepted (PrintChecked bs) bs l h))
 
 -- ---- the promise
 

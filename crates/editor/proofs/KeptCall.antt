@@ -14,7 +14,8 @@ use Rattle.values.proofs.CursorLaws.{left-inside, right-inside, up-inside, down
 use Rattle.bytes.proofs.WidthLaws.{width-cases}
 use Rattle.editor.specs.Call.{Call, Printed, rule, inRange, apply, own, lastCr, crLeft, crAfter, afterCall}
 use Rattle.editor.specs.Call.Printed.{NoPrint, Took}
-use Rattle.editor.specs.Call.Call.{PrintBytes, PrintChecked, TypeChar, Backspace, DeleteChar, EraseToEnd, EscapeLine, Tab, CtrlEnter, TakeLogicalLine, BreakLine, MoveLeft, MoveRight, MoveUp, MoveDown, Home, WordLeft, WordRight, EndOfLine, Clear, SetWidth, SetCursor, SetInsert, SetAttr, SetKeysOn}
+use Rattle.editor.specs.Call.Call.{PrintBytes, PrintChecked, PrintWaiting, TypeChar, Backspace, DeleteChar, EraseToEnd, EscapeLine, Tab, CtrlEnter, TakeLogicalLine, BreakLine, MoveLeft, MoveRight, MoveUp, MoveDown, Home, WordLeft, WordRight, EndOfLine, Clear, SetWidth, SetCursor, SetInsert, SetAttr, SetKeysOn}
+use Rattle.editor.specs.Waiting.{taken}
 use Rattle.editor.specs.Modes.{setWidth, setKeysOn}
 use Rattle.line.proofs.Kept.{Kept}
 use Rattle.editor.proofs.KeptPrint.{printed}
@@ -36,6 +37,7 @@ module _ {P : Screen → Type 0} (m : KeptModes P) where
   unfolding apply inRange own rule allPass
   apply-kept (PrintBytes bs) s r p wide keys = printed k bs false s p
   apply-kept (PrintChecked bs) s r p wide keys = printed k bs false s p
+  apply-kept (PrintWaiting bs rows) s r p wide keys = printed k (taken s rows bs) false s p
   apply-kept (TypeChar ch) s r p wide keys = type-char k s ch p
   apply-kept Backspace s r p wide keys = back-space k s p
   apply-kept DeleteChar s r p wide keys = delete-char k s p

@@ -1,14 +1,18 @@
 -- The laws of the rules and of the functions that do their work.
 pub mod KeptPrint
+pub mod PrintParts
 pub mod KeptTyping
 pub mod KeptMotion
 pub mod KeptCall
+pub mod Taken
 pub mod Answers
 pub mod Refusals
 pub mod Lists
-pub mod PrintParts
+pub mod OnePrint
 pub mod CheckedPrints
+pub mod WaitingPrints
 pub mod PrintLaws
+pub mod WaitingLaws
 pub mod CrLaws
 pub mod TypingLaws
 pub mod TabLaws

@@ -26,10 +26,11 @@ use Rattle.line.specs.Given.{Known, SpanIs}
 use Rattle.line.specs.Text.{Reads}
 use Rattle.line.specs.declared.reading.Reading.{Reading}
 use Rattle.line.proofs.CharsLaws.{rows-fit}
+use Rattle.editor.specs.declared.print.Went.{Went}
 use Rattle.editor.specs.Print.{rowIsBlank, nextRow}
 use Rattle.editor.specs.Lines.{ctrlEnter, takeLogicalLine, tooLong, onBlankEnd}
 use Rattle.editor.specs.Call.{CtrlEnter, rule, apply}
-use Rattle.editor.specs.Given.{Copied}
+use Rattle.editor.specs.Given.{Copied, Advances}
 use Rattle.editor.proofs.PrintLaws.{row-is}
 
 -- a flag set in the record l, of which old is a copy
@@ -190,14 +191,14 @@ module _ (l old : List ℕ) (h : Head) (copied : Copied l old) (ih : h ≡ headO
     at-end : g ≡ withCursor h (at end 0)
     at-end = eg ∙ ap (withCursor h) ec
 
-    pub take-next : (m : List ℕ) (u : Head) → t ≡ false → Leaves (nextRow (record { head = g; rows = rowsOf l })) l m u
-        → Leaves (takeLogicalLine (screenOf old)) l m u
+    pub take-next : (m : List ℕ) (w : Went) → t ≡ false → Advances (nextRow (record { head = g; rows = rowsOf l })) l m w
+        → Leaves (takeLogicalLine (screenOf old)) l m (w .head)
     unfolding takeLogicalLine onBlankEnd if_then_else_ moveTo
-    take-next m u n left =
+    take-next m w n left =
         let d : endOf (screenOf old) (headOf old .cursor .row) ≡ end = sym (span .last ∙ ap (λ (x : Head). endOf (screenOf old) (x .cursor .row)) ih) in
         let e : (_≡_ {A = Screen} (record { head = g; rows = rowsOf l }) (record { head = withCursor (headOf old) (at end 0); rows = rowsOf old })) =
         ap₂ (λ (x : Head) (y : List ℕ). record { head = x; rows = rowsOf y }) (at-end ∙ ap (λ (x : Head). withCursor x (at end 0)) ih) (copied .copy) in
-        rw (sym is ∙ n, d) (subst (λ (x : Screen). Leaves (nextRow x) l m u) e left)
+        rw (sym is ∙ n, d) (subst (λ (x : Screen). Leaves (nextRow x .screen) l m (w .head)) e (record { becomes = left .becomes; head = left .head }))
 
 -- ---- line_text: start to end is the span of the cursor's row, t its reading
 

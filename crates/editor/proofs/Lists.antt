@@ -1,12 +1,12 @@
 -- Lists of calls: a refused call leaves the record as it was, an accepted one leaves what the rules say, which a record can hold; so after any number of
 -- calls the record is that of the accepted ones among them.
 -- Assumes nothing.
-use Prim.Native.Nat.{ℕ, _^_, _<_, zero, suc, _+_}
+use Prim.Native.Nat.{ℕ, _^_, _≤_, _<_, zero, suc, _+_}
 use mathlib.Core.Path.{_≡_, sym, ap, _∙_, subst, refl}
 use mathlib.Core.Bool.{true, false, Bool}
 use mathlib.Core.List.{List, [], _∷_}
 use native.Mathlib.Omega.{arith}
-use lib.ListN.{length, take}
+use lib.ListN.{length, take, drop}
 use mathlib.Core.Logic.{_≢_}
 use Rattle.bytes.specs.Answer.{isRefusal}
 use Rattle.grid.specs.Layout.{PAIR, MASKS, SERIALS}
@@ -17,7 +17,7 @@ use Rattle.bytes.specs.Test.{every, isByte}
 use Rattle.grid.proofs.PairLaws.{pair-fits}
 use Rattle.grid.specs.Conditions.{ValidRecord}
 use Rattle.grid.specs.Facts.{RowsFacts, StateFacts, Valid}
-use Rattle.bytes.proofs.Bools.{cases}
+use Rattle.bytes.proofs.Bools.{cases, either}
 use Rattle.grid.proofs.Bytes.{state-back, pair-back, state-valid, bytes-back}
 use Rattle.grid.proofs.TouchedLaws.{number-lt, length-differing}
 use Rattle.grid.proofs.Validity.{screen-facts, screen-valid}
@@ -161,3 +161,22 @@ calls-facts (suc m) (c ∷ cs) t f =
 pub new-facts : (w sitting : ℕ) → sitting < SERIALS → StateFacts (newState w sitting)
 unfolding newState
 new-facts w sitting h = record { pair = record { sitting = h; serial = omega arith }; touched = omega arith; screen = screen-valid _ (new-screen w) }
+
+-- ---- calls that are all accepted
+
+accepted-fewer : (cs : List Call) (l : List ℕ) → length (accepted l cs) ≤ length cs
+unfolding accepted
+accepted-fewer [] l = omega arith
+accepted-fewer (c ∷ cs) l =
+    let ih = accepted-fewer cs (changing c l .rec) in
+    either (λ (ds : List Call). length ds ≤ length (c ∷ cs)) _ _ _ (omega arith) (omega arith)
+
+-- the first is, and so are the others
+pub all-accepted : (c : Call) (cs : List Call) (l : List ℕ) → accepted l (c ∷ cs) ≡ c ∷ cs
+    → (isRefusal (changing c l .number) ≡ false) × (accepted (changing c l .rec) cs ≡ cs)
+unfolding accepted if_then_else_
+all-accepted c cs l e = go (isRefusal (changing c l .number)) (accepted (changing c l .rec) cs) (accepted-fewer cs (changing c l .rec)) e
+  where
+    go : (r : Bool) (ds : List Call) → length ds ≤ length cs → (if r then ds else c ∷ ds) ≡ c ∷ cs → (r ≡ false) × (ds ≡ cs)
+    go true ds h q = absurd (let n = ap length q in omega arith)
+    go false ds h q = (refl, ap (drop 1) q)

@@ -8,7 +8,7 @@ use mathlib.Core.Logic.{_≢_, inl, inr, ⊎-elim}
 use native.Mathlib.Omega.{arith}
 use lib.ListN.{length, getD}
 use lib.Dec.{leb, ltb, eqb}
-use borrow.Author.Tests.{ltb-false, leb-false, eqb-false, le-ltb, lt-leb, eq-eqb, eqb-true, ne-eqb, not-false}
+use borrow.Author.Tests.{ltb-false, leb-true, leb-false, eqb-false, le-ltb, lt-leb, eq-eqb, eqb-true, ne-eqb, not-false}
 use Rattle.bytes.specs.Choice.{if_then_else_}
 use Rattle.bytes.specs.Answer.{refused, over, Written, unless, wrote}
 use Rattle.grid.specs.Layout.{SIZE}
@@ -20,24 +20,26 @@ use Rattle.bytes.proofs.Bools.{and-false, left-false, and-cases, and-right, and
 use Rattle.bytes.proofs.WidthLaws.{width-cases, cases-width}
 use Rattle.line.proofs.KeptLine.{line-fits}
 use Rattle.editor.specs.Print.{splits}
+use Rattle.editor.specs.Waiting.{waited}
 use Rattle.editor.specs.Call.{Call, rule, output, lengths, own, inRange, submitted, answer, step}
-use Rattle.editor.specs.Call.Call.{PrintBytes, PrintChecked, TypeChar, Backspace, DeleteChar, EraseToEnd, EscapeLine, Tab, CtrlEnter, TakeLogicalLine, BreakLine, MoveLeft, MoveRight, MoveUp, MoveDown, Home, WordLeft, WordRight, EndOfLine, Clear, SetWidth, SetCursor, SetInsert, SetAttr, SetKeysOn}
+use Rattle.editor.specs.Call.Call.{PrintBytes, PrintChecked, PrintWaiting, TypeChar, Backspace, DeleteChar, EraseToEnd, EscapeLine, Tab, CtrlEnter, TakeLogicalLine, BreakLine, MoveLeft, MoveRight, MoveUp, MoveDown, Home, WordLeft, WordRight, EndOfLine, Clear, SetWidth, SetCursor, SetInsert, SetAttr, SetKeysOn}
 use Rattle.editor.specs.Outcome.{LAST-SERIAL, serialTests, changeTests, Outcome, changing, creating, Query, inside, value, queryTests, asking, TextCall, room, textOf, texting}
 use Rattle.editor.specs.Outcome.Query.{AskWidth, AskCursor, AskAttr, AskEditableRows, AskCell, AskContinues}
 use Rattle.editor.specs.Outcome.TextCall.{LogicalText, Snapshot}
 use Rattle.editor.specs.Refusals.{WrongLength, ArgumentRefused, ChangeRefused, ChangingAnswers, NewRefused, CreatingAnswers, Outside, QueryRefused, AskingAnswers, ShortText, TextRefused, TextingAnswers}
 use Rattle.editor.specs.Refusals.WrongLength.{line}
-use Rattle.editor.specs.Refusals.ArgumentRefused.{character, attribute, insert, keys, width, split}
+use Rattle.editor.specs.Refusals.ArgumentRefused.{character, attribute, insert, keys, width, row-limit, input, split}
 use Rattle.editor.specs.Refusals.ChangeRefused.{record-length, lent-length, layout, argument, last-serial}
 use Rattle.editor.specs.Refusals.NewRefused.{record-length as new-length}
 use Rattle.editor.specs.Refusals.Outside.{cell-row, cell-column, continues-row}
 use Rattle.editor.specs.Refusals.QueryRefused.{record-length as query-length, layout as query-layout, argument as query-argument}
 use Rattle.editor.specs.Refusals.ShortText.{line as text-line, picture}
 use Rattle.editor.specs.Refusals.TextRefused.{record-length as text-length, output-length as text-output, layout as text-layout}
+use Rattle.editor.proofs.Taken.{taken-to, taken-most}
 use Rattle.editor.proofs.Answers.{text-fits, room-most, value-fits}
 use Rattle.bytes.specs.Refusals.{order, placeIn, firstOf, allPass}
 use Rattle.bytes.proofs.Found.{Fails, First, Found, found, found-none, ordered, answered, fails-left, fails-right, first-split, none-first, none-fails, all-pass, pass-append}
-use Rattle.bytes.proofs.Found.Fails.{here}
+use Rattle.bytes.proofs.Found.Fails.{here, there}
 use Rattle.bytes.proofs.Found.First.{now, later}
 use Rattle.grid.specs.Refusals.{recordTests}
 use Rattle.grid.proofs.RefusalLaws.{Taken, tests-taken, record-ordered, record-sound, size-fails, other-fails, layout-fails}
@@ -48,7 +50,7 @@ use Rattle.grid.proofs.RefusalLaws.{Taken, tests-taken, record-ordered, record-
 pub record Tells (c : Call) : Type 0 where
   pub short : lengths c ≡ false → WrongLength c
   pub own-first : (s : Screen) (k : ℕ) → First (own c s) k → ArgumentRefused s c k
-  pub small : (s : Screen) → answer c s < refused 0
+  pub small : (s : Screen) → inRange c s ≡ true → answer c s < refused 0
   pub order : (l : List ℕ) → ordered 0 (changeTests c l) ≡ true
 
 -- a call with no output, and with no argument that can be out of range
@@ -58,7 +60,7 @@ always-tells c r n none o =
     record {
       short = λ e. absurd (true≢false (sym r ∙ e));
       own-first = λ s k f. none-first (subst (λ (ts : List (ℕ × Bool)). First ts k) (none s) f);
-      small = λ s. omega (arith, n s);
+      small = λ s r. omega (arith, n s);
       order = o;
     }
 
@@ -69,7 +71,7 @@ given-tells c ok r n one o outside =
     record {
       short = λ e. absurd (true≢false (sym r ∙ e));
       own-first = λ s k f. go s k (subst (λ (ts : List (ℕ × Bool)). First ts k) (one s) f);
-      small = λ s. omega (arith, n s);
+      small = λ s r. omega (arith, n s);
       order = o;
     }
   where
@@ -81,7 +83,7 @@ given-tells c ok r n one o outside =
 checked-tells : (bs : List ℕ) → ((l : List ℕ) → ordered 0 (changeTests (PrintChecked bs) l) ≡ true) → Tells (PrintChecked bs)
 unfolding lengths own answer rule splits
 checked-tells bs o =
-    record { short = λ e. absurd (true≢false e); own-first = λ s k f. go bs s k f; small = λ s. omega arith; order = o }
+    record { short = λ e. absurd (true≢false e); own-first = λ s k f. go bs s k f; small = λ s r. omega arith; order = o }
   where
     begins : (cs : List ℕ) (s : Screen) → eqb (getD cs 0 0) 10 && eqb (s .head .cr) 1 ≡ true → ArgumentRefused s (PrintChecked cs) 13
     begins [] s e = absurd (true≢false (sym e))
@@ -93,6 +95,25 @@ checked-tells bs o =
     go cs s k (now e) = begins cs s (not-false _ e)
     go cs s k (later e f) = none-first f
 
+-- the waiting print
+waiting-tells : (bs : List ℕ) (rows : ℕ) → ((l : List ℕ) → ordered 0 (changeTests (PrintWaiting bs rows) l) ≡ true) → Tells (PrintWaiting bs rows)
+unfolding lengths own inRange answer waited rule allPass
+waiting-tells bs rows o =
+    record {
+      short = λ e. absurd (true≢false e);
+      own-first = go;
+      small = λ s r.
+          let few = leb-true rows 1000 (and-left (leb rows 1000) _ r) in
+          let fit = leb-true (length bs) 65535 (and-left (leb (length bs) 65535) true (and-right (leb rows 1000) _ r)) in
+          omega (arith, taken-to s bs rows, taken-most s bs rows);
+      order = o;
+    }
+  where
+    go : (s : Screen) (k : ℕ) → First ((3, leb rows 1000) ∷ (7, leb (length bs) 65535) ∷ []) k → ArgumentRefused s (PrintWaiting bs rows) k
+    go s k (now e) = row-limit (leb-false _ _ e)
+    go s k (later e (now f)) = input (leb-false _ _ f)
+    go s k (later e (later f g)) = none-first g
+
 width-not : (w : ℕ) → widthb w ≡ false → (w ≢ 40) × (w ≢ 80)
 width-not w e = (λ q. true≢false (sym (cases-width w (inl q)) ∙ e), λ q. true≢false (sym (cases-width w (inr q)) ∙ e))
 
@@ -100,6 +121,7 @@ pub tells : (c : Call) → Tells c
 unfolding lengths own answer rule changeTests recordTests serialTests ordered placeIn order if_then_else_
 tells (PrintBytes bs) = always-tells _ refl (λ s. refl) (λ s. refl) (λ l. refl)
 tells (PrintChecked bs) = checked-tells bs (λ l. refl)
+tells (PrintWaiting bs rows) = waiting-tells bs rows (λ l. refl)
 tells (TypeChar ch) = given-tells _ _ refl (λ s. refl) (λ s. refl) (λ l. refl) (λ s e. character (leb-false ch 255 e))
 tells Backspace = always-tells _ refl (λ s. refl) (λ s. refl) (λ l. refl)
 tells DeleteChar = always-tells _ refl (λ s. refl) (λ s. refl) (λ l. refl)
@@ -108,7 +130,7 @@ tells EscapeLine = always-tells _ refl (λ s. refl) (λ s. refl) (λ l. refl)
 tells Tab = always-tells _ refl (λ s. refl) (λ s. refl) (λ l. refl)
 tells CtrlEnter = always-tells _ refl (λ s. refl) (λ s. refl) (λ l. refl)
 tells (TakeLogicalLine out) =
-    record { short = λ e. line (leb-false _ _ e); own-first = λ s k f. none-first f; small = λ s. omega (arith, line-fits s); order = λ l. refl }
+    record { short = λ e. line (leb-false _ _ e); own-first = λ s k f. none-first f; small = λ s r. omega (arith, line-fits s); order = λ l. refl }
 tells BreakLine = always-tells _ refl (λ s. refl) (λ s. refl) (λ l. refl)
 tells MoveLeft = always-tells _ refl (λ s. refl) (λ s. refl) (λ l. refl)
 tells MoveRight = always-tells _ refl (λ s. refl) (λ s. refl) (λ l. refl)
@@ -135,8 +157,38 @@ argument-fails (character h) = here (lt-leb _ _ h)
 argument-fails (attribute h) = here (lt-leb _ _ h)
 argument-fails (insert h) = here (lt-leb _ _ h)
 argument-fails (keys h) = here (lt-leb _ _ h)
+argument-fails (row-limit h) = here (lt-leb _ _ h)
+argument-fails (input h) = there (here (lt-leb _ _ h))
 argument-fails (split e) = here (ap not (and-both true _ refl (eq-eqb _ _ e)))
 argument-fails (width n m) = here (not-eq-not {b = false} .0 (λ t. ⊎-elim n m (width-cases _ t)))
+
+-- ---- what is so of an accepted changing call
+
+pub record Going (c : Call) (l : List ℕ) : Type 0 where
+  pub start : Taken (lengths c) l
+  pub in-range : inRange c (screenOf l) ≡ true
+  pub serial : serialOf l ≢ LAST-SERIAL
+
+pub going : (c : Call) (l : List ℕ) → firstOf (changeTests c l) ≡ 0 → Going c l
+unfolding changeTests inRange serialTests allPass
+going c l e =
+    let first : List (ℕ × Bool) = recordTests (lengths c) l in
+    let mine : List (ℕ × Bool) = own c (screenOf l) in
+    let all : allPass (first ++ (mine ++ serialTests l)) ≡ true = none-fails 0 (changeTests c l) (tells c .order l) e in
+    let parts : allPass first && allPass (mine ++ serialTests l) ≡ true = sym (pass-append first (mine ++ serialTests l)) ∙ all in
+    let late : allPass mine && allPass (serialTests l) ≡ true =
+    sym (pass-append mine (serialTests l)) ∙ and-right (allPass first) (allPass (mine ++ serialTests l)) parts in
+    let start = and-left (allPass first) (allPass (mine ++ serialTests l)) parts in
+    record {
+      start = tests-taken (lengths c) l start (all-pass first start);
+      in-range = and-left (allPass mine) (allPass (serialTests l)) late;
+      serial = λ q.
+          true≢false
+          (sym (and-left (not (eqb (serialOf l) LAST-SERIAL)) true (and-right (allPass mine) (allPass (serialTests l)) late))
+          ∙ ap not (eq-eqb _ _ q));
+    }
+
+-- ---- a changing call is refused by its conditions
 
 module _ (c : Call) (l : List ℕ) where
   change-sound : (k : ℕ) → First (changeTests c l) k → ChangeRefused c l k
@@ -172,7 +224,7 @@ module _ (c : Call) (l : List ℕ) where
       answered (λ (o : Outcome). o .number) change-found
       (record { number = answer c (screenOf l); rec = stateBytes (step c (readState l)); out = over text (output c) })
       (record { number = refused (firstOf (changeTests c l)); rec = l; out = output c })
-      (λ e. tells c .small (screenOf l)) refl in
+      (λ e. tells c .small (screenOf l) (going c l e .in-range)) refl in
       record {
         number = a .refuses;
         kept = λ h. (ap (λ (o : Outcome). o .rec) (a .kept h), ap (λ (o : Outcome). o .out) (a .kept h));
@@ -182,32 +234,6 @@ module _ (c : Call) (l : List ℕ) where
   -- no test of an accepted call fails
   pub change-none : changing c l .number < refused 1 → firstOf (changeTests c l) ≡ 0
   change-none h = found-none change-found (changing-answers .number .accepted .0 h)
-
--- ---- what is so of an accepted changing call
-
-pub record Going (c : Call) (l : List ℕ) : Type 0 where
-  pub start : Taken (lengths c) l
-  pub in-range : inRange c (screenOf l) ≡ true
-  pub serial : serialOf l ≢ LAST-SERIAL
-
-pub going : (c : Call) (l : List ℕ) → firstOf (changeTests c l) ≡ 0 → Going c l
-unfolding changeTests inRange serialTests allPass
-going c l e =
-    let first : List (ℕ × Bool) = recordTests (lengths c) l in
-    let mine : List (ℕ × Bool) = own c (screenOf l) in
-    let all : allPass (first ++ (mine ++ serialTests l)) ≡ true = none-fails 0 (changeTests c l) (tells c .order l) e in
-    let parts : allPass first && allPass (mine ++ serialTests l) ≡ true = sym (pass-append first (mine ++ serialTests l)) ∙ all in
-    let late : allPass mine && allPass (serialTests l) ≡ true =
-    sym (pass-append mine (serialTests l)) ∙ and-right (allPass first) (allPass (mine ++ serialTests l)) parts in
-    let start = and-left (allPass first) (allPass (mine ++ serialTests l)) parts in
-    record {
-      start = tests-taken (lengths c) l start (all-pass first start);
-      in-range = and-left (allPass mine) (allPass (serialTests l)) late;
-      serial = λ q.
-          true≢false
-          (sym (and-left (not (eqb (serialOf l) LAST-SERIAL)) true (and-right (allPass mine) (allPass (serialTests l)) late))
-          ∙ ap not (eq-eqb _ _ q));
-    }
 
 -- ---- new screen
 

@@ -1,4 +1,4 @@
--- The 25 changing calls, and what an accepted one does to what a record holds.
+-- The 26 changing calls, and what an accepted one does to what a record holds.
 -- Assumes nothing.
 use Prim.Native.Nat.{ℕ}
 use mathlib.Core.Bool.{Bool, true, not}
@@ -14,6 +14,7 @@ use Rattle.values.specs.Attr.{attrOf}
 use Rattle.bytes.specs.Width.{widthb}
 use Rattle.line.specs.Line.{MAX-LOGICAL, lineText}
 use Rattle.editor.specs.Print.{printBytes, splits}
+use Rattle.editor.specs.Waiting.{taken, waited}
 use Rattle.editor.specs.Typing.{typeChar, backspace, deleteChar, eraseToEnd}
 use Rattle.editor.specs.Lines.{escapeLine, ctrlEnter, takeLogicalLine, breakLine}
 use Rattle.editor.specs.Tab.{tab}
@@ -24,6 +25,7 @@ use Rattle.editor.specs.Modes.{clear, setWidth, setInsert, setAttr, setK
 -- `take_logical_line` has the output that it is lent, as it is at entry
 pub data Call : Type 0 where
   PrintBytes PrintChecked : List ℕ → Call
+  PrintWaiting : List ℕ → ℕ → Call
   TypeChar : ℕ → Call
   Backspace DeleteChar EraseToEnd EscapeLine Tab CtrlEnter : Call
   TakeLogicalLine : List ℕ → Call
@@ -64,10 +66,10 @@ always f = plain (λ s. []) f
 abbrev pub given : Bool → (Screen → Screen) → Rule
 given ok f = plain (λ s. (3, ok) ∷ []) f
 
--- a print of bs
-abbrev pub printing : (Screen → List (ℕ × Bool)) → List ℕ → Rule
-printing own bs =
-    record { output = []; lengths = true; own = own; apply = λ s. printBytes s bs; printed = λ s. Took bs; submitted = λ s. []; answer = λ s. 0 }
+-- a print, the bytes that it takes, and what it answers where these are taken
+abbrev pub printing : (Screen → List (ℕ × Bool)) → (Screen → List ℕ) → (Screen → List ℕ → ℕ) → Rule
+printing own takes n =
+    record { output = []; lengths = true; own = own; apply = λ s. printBytes s (takes s); printed = λ s. Took (takes s); submitted = λ s. []; answer = λ s. n s (takes s) }
 
 -- a call that hands out a text in an output of at least room bytes, and answers its length
 abbrev pub handing : List ℕ → ℕ → (Screen → List ℕ) → (Screen → Screen) → Rule
@@ -75,8 +77,9 @@ handing out room text f =
     record { output = out; lengths = leb room (length out); own = λ s. []; apply = f; printed = λ s. NoPrint; submitted = text; answer = λ s. length (text s) }
 
 unfoldable pub rule : Call → Rule
-rule (PrintBytes bs) = printing (λ s. []) bs
-rule (PrintChecked bs) = printing (λ s. (13, not (splits s bs)) ∷ []) bs
+rule (PrintBytes bs) = printing (λ s. []) (λ s. bs) (λ s bs. 0)
+rule (PrintChecked bs) = printing (λ s. (13, not (splits s bs)) ∷ []) (λ s. bs) (λ s bs. 0)
+rule (PrintWaiting bs rows) = printing (λ s. (3, leb rows 1000) ∷ (7, leb (length bs) 65535) ∷ []) (λ s. taken s rows bs) waited
 rule (TypeChar ch) = given (leb ch 255) (λ s. typeChar s ch)
 rule Backspace = always backspace
 rule DeleteChar = always deleteChar

@@ -1,6 +1,7 @@
--- The rules of document 01 on values, a file for each of its sections in its order, with (l) of document 02; the calls; what an exported call answers and leaves; which
--- calls are refused; and what is promised of the checked print. `Given` is no rule: contracts inside this crate cite it.
+-- The rules of document 01 on values, a file for each of its sections in its order, with (a) and (l) of document 02; the calls; what an exported call answers and leaves;
+-- which calls are refused; and what is promised of the checked and of the waiting print. `Given` is no rule: contracts inside this crate cite it.
 pub mod Print
+pub mod Waiting
 pub mod Typing
 pub mod Tab
 pub mod Lines
@@ -13,4 +14,5 @@ pub mod Outcome
 pub mod Lists
 pub mod Refusals
 pub mod CheckedPrints
+pub mod WaitingPrints
 pub mod Given

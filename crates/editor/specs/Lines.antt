@@ -40,7 +40,7 @@ onBlankEnd s =
 unfoldable pub takeLogicalLine : Screen → Screen
 takeLogicalLine s =
     let e = endOf s (s .head .cursor .row) in
-    if onBlankEnd s then withRows s (setFlag (s .rows) (e - 1) 0) else nextRow (moveTo s (at e 0))
+    if onBlankEnd s then withRows s (setFlag (s .rows) (e - 1) 0) else nextRow (moveTo s (at e 0)) .screen
 
 unfoldable pub breakLine : Screen → Screen
-breakLine s = nextRow s
+breakLine s = nextRow s .screen

@@ -91,7 +91,8 @@ pub fn take_logical_line(rec: &mut [u8], old: &[u8]) -> Head
         row::set_flag(rec, end - 1, 0);
         return h;
     }
-    next_row(rec, h.with_cursor(Cursor::new(end, 0)))
+    let w = next_row(rec, h.with_cursor(Cursor::new(end, 0)));
+    w.head
 }
 
 // The reading of the line under the cursor.
@@ -109,5 +110,6 @@ pub fn break_line(rec: &mut [u8]) -> Head
     ensures { λ h. ⌜ Leaves (apply BreakLine (screenOf (now (rec .entry)))) (now (rec .entry)) (now (rec .exit)) h ⌝ }
 {
     let h = head::read_head(rec);
-    next_row(rec, h)
+    let w = next_row(rec, h);
+    w.head
 }

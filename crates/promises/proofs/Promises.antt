@@ -4,6 +4,7 @@ use Rattle.grid.proofs.Bytes.{state-valid, bytes-back}
 use Rattle.grid.proofs.Conditions.{conditions-record, record-facts}
 use Rattle.editor.proofs.Lists.{new-facts, valid-kept, pair-kept}
 use Rattle.editor.proofs.CheckedPrints.{checked-prints}
+use Rattle.editor.proofs.WaitingPrints.{waiting-prints}
 use Rattle.editor.proofs.Refusals.{changing-answers, creating-answers, asking-answers, texting-answers}
 use Rattle.report.proofs.Conditions.{facts-report}
 use Rattle.report.proofs.RoundTrips.{report-bytes-back}
@@ -36,5 +37,6 @@ promises =
       demand-3 = demand-3;
       restart-followed = followed;
       checked-prints = checked-prints;
+      waiting-prints = waiting-prints;
       examples-hold = checked;
     }

@@ -1,4 +1,4 @@
--- Document 01, "Examples": the one list of those marked *, one of document 02, (c), and three of (l). Those of the screen are on values, those of the mirror are on the
+-- Document 01, "Examples": the one list of those marked *, one of document 02, (c), three of (l) and four of (a). Those of the screen are on values, those of the mirror are on the
 -- bytes that arrive and that `arrival` leaves. `proofs/Checked.antt` has that each holds, by computing it.
 -- Assumes nothing.
 use Prim.Native.Nat.{ℕ}
@@ -11,9 +11,9 @@ use Rattle.grid.specs.declared.pair.Pair.{Pair}
 use Rattle.grid.specs.Screen.{State, rowAt, newState, trim, same}
 use Rattle.grid.specs.Record.{stateBytes, pairOf}
 use Rattle.line.specs.Line.{rowText}
-use Rattle.editor.specs.Call.{Call, step}
+use Rattle.editor.specs.Call.{Call, answer, step}
 use Rattle.editor.specs.Lists.{steps}
-use Rattle.editor.specs.Call.Call.{PrintBytes, PrintChecked, TypeChar, Backspace, MoveLeft, WordRight, SetCursor, SetInsert}
+use Rattle.editor.specs.Call.Call.{PrintBytes, PrintChecked, PrintWaiting, TypeChar, Backspace, MoveLeft, WordRight, SetCursor, SetInsert}
 use Rattle.report.specs.declared.kind.Kind.the-variants.{Step}
 use Rattle.report.specs.Report.{reported}
 use Rattle.mirror.specs.Layout.{NEWEST, RECORD}
@@ -37,6 +37,10 @@ touched t = t .stamp .touched ∷ []
 
 unfoldable pub cr : State → List ℕ
 cr t = t .screen .head .cr ∷ []
+
+-- what a call would answer
+unfoldable pub answered : Call → State → List ℕ
+answered c t = answer c (t .screen) ∷ []
 
 unfoldable pub flag : ℕ → State → List ℕ
 flag r t = rowAt (t .screen .rows) r .flag ∷ []
@@ -90,6 +94,12 @@ examples =
     ∷ after 80 (PrintBytes (A ∷ 13 ∷ []) ∷ PrintChecked [] ∷ []) (both cursor cr) (1 ∷ 0 ∷ 1 ∷ [])
     ∷ after 80 (PrintBytes (13 ∷ 7 ∷ []) ∷ []) (both cursor cr) (1 ∷ 0 ∷ 0 ∷ [])
     ∷ after 80 (PrintChecked (13 ∷ []) ∷ MoveLeft ∷ []) (both cursor cr) (0 ∷ 79 ∷ 0 ∷ [])
+    -- (a): on row 23, 13,10 and "A" with a limit of 0 take nothing, with 1 all, 13 and its 10 together, and the bit goes by the last byte taken
+    ∷ after 80 (SetCursor 23 0 ∷ []) (answered (PrintWaiting (13 ∷ 10 ∷ A ∷ 13 ∷ []) 0)) (0 ∷ [])
+    ∷ after 80 (SetCursor 23 0 ∷ []) (answered (PrintWaiting (13 ∷ 10 ∷ A ∷ 13 ∷ []) 1)) (65539 ∷ [])
+    ∷ after 80 (SetCursor 23 0 ∷ PrintWaiting (A ∷ 13 ∷ 10 ∷ 13 ∷ []) 1 ∷ []) (both cursor (both cr (text 22))) (23 ∷ 0 ∷ 0 ∷ A ∷ [])
+    -- a character in the last column scrolls
+    ∷ after 80 (SetCursor 23 79 ∷ []) (answered (PrintWaiting (7 ∷ A ∷ []) 0)) (1 ∷ [])
     -- steps 1, 3, 2, 3 arrive: (m, n) is (1,1), (1,3), (2,3), (3,3); and the answer is 1 if that is level, else 0
     ∷ arrive 0 (TypeChar A ∷ PrintBytes (13 ∷ 66 ∷ []) ∷ Backspace ∷ []) serial ((0, 1) ∷ (0, 3) ∷ (0, 2) ∷ (0, 3) ∷ [])
     (1 ∷ 1 ∷ 1 ∷ 1 ∷ 3 ∷ 0 ∷ 2 ∷ 3 ∷ 0 ∷ 3 ∷ 3 ∷ 1 ∷ [])

@@ -6,8 +6,9 @@
 //! the samples, since other work on the machine can only add to a time, and for comparison the ratio of the medians.
 use checks::oracle::{new_record, screen::Screen};
 use checks::reports;
+use checks::waiting::{Waited, LONGEST_INPUT, MOST_ROWS};
 use criterion::{BenchmarkGroup, Criterion};
-use futonrobin::ffi;
+use futonrobin::{ffi, Refusal};
 use std::hint::black_box;
 use std::path::{Path, PathBuf};
 use std::time::Duration;
@@ -71,6 +72,20 @@ impl Driver for Screen {
     }
     fn width(&self) -> u32 {
         Screen::width(self) as u32
+    }
+}
+
+impl Record {
+    /// A listing in waiting prints, each with as many bytes and rows as it may have, until nothing is left. The Rust has no such print.
+    fn print_waiting(&mut self, listing: &[u8]) {
+        let mut rest = listing;
+        while !rest.is_empty() {
+            // no line end is parted; a listing has no 13 without its 10
+            let piece = &rest[..rest.len().min(LONGEST_INPUT)];
+            let piece = piece.strip_suffix(b"\r").unwrap_or(piece);
+            let answer = ffi::screen_print_waiting(&mut self.0, piece, MOST_ROWS);
+            rest = &rest[Waited::of_answer(Refusal::of_answer(answer).expect("it is in order")).taken..];
+        }
     }
 }
 
@@ -166,6 +181,13 @@ fn followed(criterion: &mut Criterion, width: u32, start: &[u8]) {
     group.finish();
 }
 
+/// The work of `listing`, in waiting prints.
+fn waiting(criterion: &mut Criterion, width: u32, listing: &[u8]) {
+    let mut group = criterion.benchmark_group(format!("waiting {width}"));
+    measure::<Record>(&mut group, "archive", width, b"", |record| record.print_waiting(black_box(listing)));
+    group.finish();
+}
+
 fn main() {
     let results = results();
     let mut criterion = measuring(&results);
@@ -175,6 +197,7 @@ fn main() {
     for width in [80, 40] {
         both!(criterion, format!("keys {width}"), width, &line, |screen| overwrite(screen));
         both!(criterion, format!("listing {width}"), width, b"", |screen| screen.print(black_box(&listing)));
+        waiting(&mut criterion, width, &listing);
         both!(criterion, format!("width {width}"), width, &listing[..3_000], |screen| {
             black_box(screen.width());
         });
@@ -246,5 +269,22 @@ fn table(results: &Path) {
     for width in [80, 40] {
         let a = Time::read(results, &format!("followed {width}"), "archive").least;
         println!("| a key, its step report and its arrival | {width} | {a:.1} | | | | {:.1} |", a / copy);
+    }
+    beside_one_print(results);
+}
+
+/// The waiting prints of a listing beside one print of it, both by the archive; more than this ratio would be too slow.
+fn beside_one_print(results: &Path) {
+    const MOST: f64 = 1.2;
+    println!("\n| a listing of 10,000 lines, a line | width | waiting, ns | one print, ns | waiting / one print | the same of medians |\n|---|---|---|---|---|---|");
+    for width in [80, 40] {
+        let [waiting, print] = ["waiting", "listing"].map(|work| Time::read(results, &format!("{work} {width}"), "archive"));
+        let (ratio, medians) = (waiting.least / print.least, waiting.median / print.median);
+        let told = if ratio > MOST { format!(", MORE than {MOST}") } else { String::new() };
+        println!(
+            "| in waiting prints | {width} | {:.1} | {:.1} | {ratio:.2}{told} | {medians:.2} |",
+            waiting.least / 10_000.0,
+            print.least / 10_000.0
+        );
     }
 }

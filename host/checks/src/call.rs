@@ -1,7 +1,7 @@
 //! The exported calls on a screen record as values, and one function that makes a call through the archive.
 //!
 //! All that is known of a call stands in one line of the table; the macro makes the rest of it. A new call is a line there, and an arm in
-//! `oracle.rs`, where the Rust does it.
+//! `oracle.rs`, where the Rust does it, or in `judge.rs`, where it is said what stands for a call that the Rust lacks.
 use crate::layout::{LINE, SNAPSHOT};
 use crate::reports::{self, REPORT};
 use futonrobin::ffi;
@@ -94,8 +94,8 @@ macro_rules! calls {
 }
 
 // The table. A line has the call and its arguments, each with one that is in range on every screen; the exported function and what is lent
-// to it; the kind; the tag of new and changing calls, by which docs/RECORDING.md and the crate `replay` know them, and which therefore stays;
-// the shortest output, if it has one.
+// to it; the kind; the tag of new and changing calls, by which docs/RECORDING.md and the crate `replay` know them, and which therefore stays: a call
+// that the Rust lacks is not recorded and has none; the shortest output, if it has one.
 calls! {
     lent rec, out;
 
@@ -106,6 +106,8 @@ calls! {
                                         => screen_print_bytes(rec, bytes),       Changing, tag 1;
     PrintChecked(bytes: Vec<u8> = b"WARD 7\r\nBED 12\r".to_vec())
                                         => screen_print_checked(rec, bytes),     Changing, tag 25;
+    PrintWaiting(bytes: Vec<u8> = b"WARD 7\r\nBED 12\r\nWARD 8\r\n".to_vec(), rows: u32 = 1)
+                                        => screen_print_waiting(rec, bytes, *rows), Changing;
     TypeChar(ch: u32 = 81)              => screen_type_char(rec, *ch),           Changing, tag 2;
     Backspace                           => screen_backspace(rec),                Changing, tag 3;
     DeleteChar                          => screen_delete_char(rec),              Changing, tag 4;

@@ -2,6 +2,7 @@
 //! What is read from a record here only counts; nothing is judged by it.
 use crate::call::{Call, Kind};
 use crate::layout::*;
+use crate::waiting::Waited;
 
 #[derive(Clone, Copy)]
 pub enum Corner {
@@ -25,11 +26,24 @@ pub enum Corner {
     CrBeforeInsert,
     SplitUnchecked,
     SplitRefused,
+    WaitsBeforeCr,
+    WaitsBeforeLf,
+    WaitsBeforeCharacter,
+    WaitsAtOnce,
+    WaitsAfterCr,
+    WaitsAfterLineEnd,
+    WaitsAfterIgnored,
+    AllAtTheLimit,
+    AllBelowTheLimit,
+    ClearsAtTheLimit,
+    CrLeftByWaiting,
+    SplitByWaiting,
+    LongRefused,
 }
 
 use Corner::*;
 
-const NAMES: [(Corner, &str); 20] = [
+const NAMES: [(Corner, &str); 33] = [
     (LastRowFlagged, "row E-1 flagged"),
     (DroppedAfter, "splice dropping rows after"),
     (DroppedBefore, "splice dropping rows before"),
@@ -50,14 +64,34 @@ const NAMES: [(Corner, &str); 20] = [
     (CrBeforeInsert, "after 13: a character with insert on"),
     (SplitUnchecked, "after 13: an unchecked print of 10"),
     (SplitRefused, "after 13: a checked print of 10, refused"),
+    (WaitsBeforeCr, "waiting before a 13"),
+    (WaitsBeforeLf, "waiting before a 10"),
+    (WaitsBeforeCharacter, "waiting before a character"),
+    (WaitsAtOnce, "waiting before the first byte"),
+    (WaitsAfterCr, "waiting with a 13 taken last"),
+    (WaitsAfterLineEnd, "waiting with 13 and its 10 taken last"),
+    (WaitsAfterIgnored, "waiting with an ignored byte taken last"),
+    (AllAtTheLimit, "all taken, as many rows as the limit"),
+    (AllBelowTheLimit, "all taken, fewer rows than the limit"),
+    (ClearsAtTheLimit, "limit 0, newline that only clears on row E-1"),
+    (CrLeftByWaiting, "after 13: a waiting print takes nothing"),
+    (SplitByWaiting, "after 13: a waiting print takes a 10"),
+    (LongRefused, "a waiting print of too many bytes, refused"),
 ];
 
-#[derive(Clone, Default)]
+#[derive(Clone)]
 pub struct Corners([u64; NAMES.len()]);
+
+// by hand: an array of more than 32 derives none
+impl Default for Corners {
+    fn default() -> Self {
+        Self([0; NAMES.len()])
+    }
+}
 
 impl Corners {
     /// Counts the corners that an accepted call meets on the record it finds.
-    pub fn count(&mut self, call: &Call, rec: &[u8]) {
+    pub fn count(&mut self, call: &Call, rec: &[u8], answer: u32) {
         let mut met = |corner: Corner, is_met: bool| self.0[corner as usize] += is_met as u64;
         match call {
             Call::Snapshot => {
@@ -86,6 +120,7 @@ impl Corners {
                 met(CtrlEnterHeld, joined > Some(LINE));
                 met(CtrlEnterJust, joined == Some(LINE));
             }
+            Call::PrintWaiting(bytes, rows) => of_waiting(bytes, *rows, rec, answer).for_each(|corner| met(corner, true)),
             _ => {}
         }
         met(LastRowFlagged, flagged(rec, editable(rec) - 1));
@@ -98,6 +133,7 @@ impl Corners {
     /// Counts the corner that a refused call is.
     pub fn count_refused(&mut self, number: u32) {
         self.0[SplitRefused as usize] += (number == 13) as u64;
+        self.0[LongRefused as usize] += (number == 7) as u64;
     }
 
     pub fn add(&mut self, other: &Corners) {
@@ -117,9 +153,34 @@ fn after_cr(call: &Call, rec: &[u8]) -> Option<Corner> {
         Call::PrintBytes(bytes) | Call::PrintChecked(bytes) if bytes.is_empty() => Some(CrLeft),
         Call::PrintBytes(bytes) if bytes[0] == 10 => Some(SplitUnchecked),
         Call::PrintBytes(bytes) | Call::PrintChecked(bytes) => bytes.ends_with(&[7]).then_some(CrBeforeIgnored),
+        Call::PrintWaiting(..) => None,
         Call::TypeChar(_) if inserting(rec) => Some(CrBeforeInsert),
         _ => Some(CrCleared),
     }
+}
+
+/// What an accepted waiting print is, by what it was given, found and answered.
+fn of_waiting(bytes: &[u8], rows: u32, rec: &[u8], answer: u32) -> impl Iterator<Item = Corner> {
+    let waited = Waited::of_answer(answer);
+    let (taken, left) = bytes.split_at(waited.taken);
+    let (next, waits, at_limit) = (left.first().copied(), !left.is_empty(), waited.scrolled == rows);
+    let begins_with_newline = matches!(taken.first(), Some(10 | 13));
+    let on_last_row = cursor(rec).0 + 1 == editable(rec);
+    let corners = [
+        (WaitsBeforeCr, next == Some(13)),
+        (WaitsBeforeLf, next == Some(10)),
+        (WaitsBeforeCharacter, next.is_some_and(|b| b == 27 || b >= 32)),
+        (WaitsAtOnce, waits && taken.is_empty()),
+        (WaitsAfterCr, waits && taken.ends_with(&[13])),
+        (WaitsAfterLineEnd, waits && taken.ends_with(&[13, 10])),
+        (WaitsAfterIgnored, waits && taken.ends_with(&[7])),
+        (AllAtTheLimit, !waits && at_limit && rows > 0),
+        (AllBelowTheLimit, !waits && !at_limit && waited.scrolled > 0),
+        (ClearsAtTheLimit, rows == 0 && begins_with_newline && on_last_row && newline_only_clears(rec)),
+        (CrLeftByWaiting, ended_in_cr(rec) && taken.is_empty()),
+        (SplitByWaiting, ended_in_cr(rec) && taken.first() == Some(&10)),
+    ];
+    corners.into_iter().filter(|&(_, met)| met).map(|(corner, _)| corner)
 }
 
 /// The span of a row, as its first and last row.

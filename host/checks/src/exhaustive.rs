@@ -91,6 +91,7 @@ fn calls_from_every_place() -> Vec<Call> {
     let prints: [&[u8]; 6] = [b"\r", b"\n", b"\r\n", b"\n\r", b"Z", b"ZY\rX\n"];
     calls.extend(prints.map(|bytes| Call::PrintBytes(bytes.to_vec())));
     calls.extend(prints.map(|bytes| Call::PrintChecked(bytes.to_vec())));
+    calls.extend(prints.map(|bytes| Call::PrintWaiting(bytes.to_vec(), 0)));
     calls
 }
 
@@ -179,9 +180,13 @@ fn calls_with_every_argument() -> Vec<Call> {
     let mut calls = Vec::new();
     calls.extend(numbers().flat_map(|n| [Call::TypeChar(n), Call::SetAttr(n), Call::SetWidth(n)]));
     calls.extend(numbers().flat_map(|n| [Call::SetInsert(n), Call::SetKeysOn(n), Call::Continues(n)]));
+    calls.extend(numbers().chain([999, 1000, 1001]).map(|n| Call::PrintWaiting(b"Z\r\n\n".to_vec(), n)));
     calls.extend(pairs().flat_map(|(a, b)| [Call::SetCursor(a, b), Call::Cell(a, b), Call::New(a, b)]));
     let strings = strings_over(&[13, 10, b'A', b' ', 7], 4).into_iter().chain((0..=255).map(|b| vec![b]));
-    calls.extend(strings.flat_map(|bytes| [Call::PrintBytes(bytes.clone()), Call::PrintChecked(bytes)]));
+    calls.extend(strings.flat_map(|bytes| {
+        let waiting = [0, 1].map(|rows| Call::PrintWaiting(bytes.clone(), rows));
+        [Call::PrintBytes(bytes.clone()), Call::PrintChecked(bytes)].into_iter().chain(waiting)
+    }));
     calls
 }
 

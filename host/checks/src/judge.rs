@@ -4,6 +4,7 @@ use crate::call::{Call, Kind};
 use crate::layout::*;
 use crate::oracle::{self, TextScreen};
 use crate::reports;
+use crate::waiting::{Waited, LONGEST_INPUT, MOST_ROWS};
 
 /// The number answered, and the final bytes of record and output.
 pub struct Outcome {
@@ -31,11 +32,7 @@ fn accepted(call: &Call, rec: &[u8], out: &[u8]) -> Outcome {
             let Call::New(width, sitting) = *call else { unreachable!() };
             Outcome { answer: 0, rec: oracle::new_record(width, sitting), out: out.to_vec() }
         }
-        Kind::Changing => {
-            let mut screen = oracle::opened(rec);
-            let text = screen.change(call);
-            Outcome { answer: text.len() as u32, rec: oracle::record_after(rec, call, &screen), out: over(&text, out) }
-        }
+        Kind::Changing => changed(&mut oracle::opened(rec), call, rec, out),
         Kind::Reading => Outcome { answer: oracle::opened(rec).read(call), rec: rec.to_vec(), out: out.to_vec() },
         Kind::Text | Kind::Report => {
             let text = match *call {
@@ -46,6 +43,18 @@ fn accepted(call: &Call, rec: &[u8], out: &[u8]) -> Outcome {
             Outcome { answer: text.len() as u32, rec: rec.to_vec(), out: over(&text, out) }
         }
     }
+}
+
+/// The outcome of an accepted changing call on the Rust's screen that `rec` describes. The waiting print, which the Rust lacks, is its print of the
+/// bytes that are taken, with an answer of its own.
+pub fn changed(screen: &mut impl TextScreen, call: &Call, rec: &[u8], out: &[u8]) -> Outcome {
+    if let Call::PrintWaiting(bytes, rows) = call {
+        let waited = Waited::on(rec, bytes, *rows);
+        let print = Call::PrintBytes(bytes[..waited.taken].to_vec());
+        return Outcome { answer: waited.answer(), ..changed(screen, &print, rec, out) };
+    }
+    let text = screen.change(call);
+    Outcome { answer: text.len() as u32, rec: oracle::record_after(rec, call, screen), out: over(&text, out) }
 }
 
 /// An output with a text written over its beginning; later bytes stay.
@@ -76,11 +85,18 @@ pub fn refusal(call: &Call, rec: &[u8], out: &[u8]) -> Option<u32> {
 pub fn of_arguments(call: &Call, rec: &[u8]) -> Option<u32> {
     if !in_range(call, width(rec)) {
         Some(3)
+    } else if is_too_long(call) {
+        Some(7)
     } else if splits_a_line_end(call, rec) {
         Some(13)
     } else {
         None
     }
+}
+
+/// Refusal 7. Document 02, (a), of the waiting print: "It refuses an input longer than 65,535 bytes with 7, checked directly after 3".
+fn is_too_long(call: &Call) -> bool {
+    matches!(call, Call::PrintWaiting(bytes, _) if bytes.len() > LONGEST_INPUT)
 }
 
 /// Refusal 13. Document 02, (l), of the checked print: "It refuses an input that begins with 10 while that bit is set".
@@ -95,6 +111,7 @@ pub fn in_range(call: &Call, width: usize) -> bool {
         Call::SetInsert(on) | Call::SetKeysOn(on) => on <= 1,
         Call::TypeChar(ch) => ch <= 255,
         Call::SetAttr(attr) => attr <= 255,
+        Call::PrintWaiting(_, rows) => rows <= MOST_ROWS,
         Call::Cell(row, col) => row <= 24 && (col as usize) < width,
         Call::Continues(row) => row <= 24,
         _ => true,

@@ -1,8 +1,8 @@
 //! The archive against the Rust.
 //!
 //! `oracle` brings in the Rust and says what a record is that holds its screen; `judge` adds the documents' refusals, so that every call on
-//! every bytes has one wanted outcome; `trial` makes a call through the archive and compares. The runs are in `random`, `exhaustive`,
-//! `examples`, `splits`, `refusals` and `drop_in`; `answers` is the file of recorded answers. `strip` has the runs of the key strip. Reports and mirrors are
+//! every bytes has one wanted outcome, with `waiting` for the print that the Rust lacks; `trial` makes a call through the archive and compares. The runs are in `random`, `exhaustive`,
+//! `examples`, `splits`, `pages`, `refusals` and `drop_in`; `answers` is the file of recorded answers. `strip` has the runs of the key strip. Reports and mirrors are
 //! run by `simulator`, over `line`, and one by one by `arrivals`; `reports` has the documents' rules for them.
 #![forbid(unsafe_code)]
 
@@ -20,6 +20,7 @@ pub mod line;
 pub mod lists;
 pub mod options;
 pub mod oracle;
+pub mod pages;
 pub mod random;
 pub mod records;
 pub mod refusals;
@@ -29,3 +30,4 @@ pub mod splits;
 pub mod strip;
 pub mod tally;
 pub mod trial;
+pub mod waiting;

@@ -56,6 +56,13 @@ pub fn lists(fragments: usize) -> impl Strategy<Value = List> {
     (one_of(&[80, 40]), sittings(), steps).prop_map(|(width, sitting, steps)| List { width, sitting, steps })
 }
 
+/// Lists with waiting prints too. They are apart from the others, since the Rust lacks these: it cannot answer such a list by itself, nor is one recorded.
+pub fn lists_with_waiting(fragments: usize) -> impl Strategy<Value = List> {
+    let waiting = waiting().prop_map(|calls| calls.into_iter().map(Step::Call).collect());
+    let steps = vec(prop_oneof![4 => fragment(), 1 => waiting], 1..fragments).prop_map(|fragments| fragments.concat());
+    (one_of(&[80, 40]), sittings(), steps).prop_map(|(width, sitting, steps)| List { width, sitting, steps })
+}
+
 /// Numbers of sittings: neighbours, those that a wrong order of their bytes would sort otherwise, and any.
 pub fn sittings() -> impl Strategy<Value = u32> {
     prop_oneof![0..5u32, one_of(&[255, 256, 65_535, 65_536, 1 << 24, 1 << 31, u32::MAX - 1, u32::MAX]), any::<u32>()]
@@ -151,6 +158,12 @@ pub fn any_call() -> BoxedStrategy<Call> {
     .boxed()
 }
 
+/// Any call, waiting prints among them.
+pub fn any_call_or_waiting() -> BoxedStrategy<Call> {
+    let waiting = (paged(), rows()).prop_map(|(bytes, rows)| Call::PrintWaiting(bytes, rows));
+    prop_oneof![12 => any_call(), 1 => waiting].boxed()
+}
+
 fn any_question() -> BoxedStrategy<Call> {
     let place = prop_oneof![6 => (0..27u32, 0..82u32), 1 => (any_number(), any_number())];
     prop_oneof![
@@ -208,6 +221,27 @@ pub fn any_part() -> impl Strategy<Value = Vec<u8>> {
     let middle =
         prop_oneof![3 => Just(vec![]), 3 => vec(character(), 1..5), 1 => (b'A'..=b'Z', 30..85usize).prop_map(|(ch, n)| vec![ch; n])];
     (begin, middle, end).prop_map(|(begin, middle, end)| [begin, &middle, end].concat())
+}
+
+/// What a waiting print is given: anything that is printed, or several short inputs, line ends for the most part; now and then more than it takes.
+pub fn paged() -> BoxedStrategy<Vec<u8>> {
+    let parts = vec(any_part(), 1..8).prop_map(|parts| parts.concat());
+    let ends = vec(one_of(&[13u8, 10, 13, 10, 7, b'A', b' ']), 0..16);
+    prop_oneof![16 => print(), 16 => parts, 16 => ends, 1 => (character(), 65_533..65_539usize).prop_map(|(ch, n)| vec![ch; n])].boxed()
+}
+
+/// The limit of a waiting print: small ones, about the height of the screen, and about the largest.
+pub fn rows() -> BoxedStrategy<u32> {
+    prop_oneof![12 => 0..6u32, 4 => one_of(&[23u32, 24, 25, 999, 1_000]), 1 => one_of(&[1_001u32, 1 << 16, u32::MAX])].boxed()
+}
+
+/// Waiting prints in turn, from the bottom of the screen often, and after a row there that was filled to its end.
+fn waiting() -> impl Strategy<Value = Vec<Call>> {
+    let print = |(bytes, rows)| Call::PrintWaiting(bytes, rows);
+    let place = (one_of(&[22u32, 23, 24]), column()).prop_map(|(row, col)| vec![Call::SetCursor(row, col)]);
+    let filled = one_of(&[40usize, 80]).prop_map(|width| vec![Call::SetCursor(24, 0), Call::PrintBytes(vec![b'F'; width])]);
+    let start = prop_oneof![3 => Just(vec![]), 6 => place, 2 => filled];
+    (start, vec((paged(), rows()).prop_map(print), 1..4)).prop_map(|(start, prints)| [start, prints].concat())
 }
 
 /// The cursor set somewhere, often a corner, then the calls.

@@ -49,9 +49,14 @@ pub fn random_lists(seed: u64, cases: u32, tally: &mut Tally) -> Result<(), Stri
     try_all(seed, cases, &lists::lists(40), tally, play)
 }
 
+/// Random lists with waiting prints among their calls: each of these is judged by what it finds, and the Rust's screen goes on with the bytes that it takes.
+pub fn random_lists_with_waiting(seed: u64, cases: u32, tally: &mut Tally) -> Result<(), String> {
+    try_all(seed, cases, &lists::lists_with_waiting(40), tally, play)
+}
+
 /// Single calls on random valid records.
 pub fn random_records(seed: u64, cases: u32, tally: &mut Tally) -> Result<(), String> {
-    let trials = (records::sketches(), lists::any_call()).prop_map(|(sketch, call)| Trial { sketch, call });
+    let trials = (records::sketches(), lists::any_call_or_waiting()).prop_map(|(sketch, call)| Trial { sketch, call });
     try_all(seed, cases, &trials, tally, |Trial { sketch, call }: &Trial, tally| {
         let rec = sketch.record();
         assert!(judge::valid(&rec), "a sketch makes valid records");
@@ -108,18 +113,18 @@ impl Game {
 
     pub fn call(&mut self, call: &Call, turn: usize, tally: &mut Tally) -> Result<(), String> {
         let out = if call.has_output() { filler(call.room() + turn % 9, turn) } else { Vec::new() };
-        self.call_with(call, &out, tally)
+        self.call_with(call, &out, tally).map(drop)
     }
 
-    /// A call with an output that may be too short.
-    pub fn call_with(&mut self, call: &Call, out: &[u8], tally: &mut Tally) -> Result<(), String> {
+    /// A call with an output that may be too short; the number answered.
+    pub fn call_with(&mut self, call: &Call, out: &[u8], tally: &mut Tally) -> Result<u32, String> {
         let want = self.wanted(call, out);
         let mut lent_out = Lent::new(out);
         let answer = call.make(self.lent.bytes_mut(), lent_out.bytes_mut());
         trial::compare(answer, &self.lent, &lent_out, &want)?;
         tally.count(call, &self.record, answer);
         self.record = want.rec;
-        Ok(())
+        Ok(answer)
     }
 
     fn wanted(&mut self, call: &Call, out: &[u8]) -> Outcome {
@@ -131,15 +136,11 @@ impl Game {
         let text = match *call {
             Call::ReportStep => reports::made(reports::Kind::Step, &self.record),
             Call::ReportFull => reports::made(reports::Kind::Full, &self.record),
-            _ if call.kind() == Kind::Changing => self.screen.change(call),
+            _ if call.kind() == Kind::Changing => return judge::changed(&mut self.screen, call, &self.record, out),
             _ if call.kind() == Kind::Text => self.screen.text(call),
             _ => return Outcome { answer: self.screen.read(call), rec: self.record.clone(), out: out.to_vec() },
         };
-        let rec = match call.kind() {
-            Kind::Changing => oracle::record_after(&self.record, call, &self.screen),
-            _ => self.record.clone(),
-        };
-        Outcome { answer: text.len() as u32, rec, out: judge::over(&text, out) }
+        Outcome { answer: text.len() as u32, rec: self.record.clone(), out: judge::over(&text, out) }
     }
 
     fn look(&mut self, turn: usize, tally: &mut Tally) -> Result<(), String> {

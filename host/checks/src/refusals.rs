@@ -7,6 +7,7 @@ use crate::random::runner;
 use crate::reports::REPORT;
 use crate::tally::Tally;
 use crate::trial::{self, filler};
+use crate::waiting::{LONGEST_INPUT, MOST_ROWS};
 use proptest::prelude::RngCore;
 use proptest::test_runner::TestRng;
 
@@ -60,10 +61,11 @@ pub fn every_byte(tally: &mut Tally) -> Result<(), String> {
     Ok(())
 }
 
-/// Every value of the byte that has two bits, for one call of every name, and for both prints with every first byte of their input and with none.
+/// Every value of the byte that has two bits, for one call of every name, and for the prints with every first byte of their input and with none.
 pub fn bits(tally: &mut Tally) -> Result<(), String> {
     let inputs = || (0..=255).map(|first| vec![first, b'A']).chain([vec![], vec![10], vec![10, 10]]);
-    let prints = inputs().flat_map(|bytes| [Call::PrintBytes(bytes.clone()), Call::PrintChecked(bytes)]);
+    let prints =
+        inputs().flat_map(|bytes| [Call::PrintBytes(bytes.clone()), Call::PrintChecked(bytes.clone()), Call::PrintWaiting(bytes, 0)]);
     let calls: Vec<_> = call::one_of_each().into_iter().chain(prints).collect();
     for width in [80, 40] {
         let mut rec = sample(width);
@@ -206,9 +208,18 @@ fn broken_layouts() -> [fn(&mut [u8]); 14] {
     ]
 }
 
-/// The same call with what the documents do not allow: arguments out of range, and for a checked print, after one that ended with 13, a 10 first.
+/// The same call with what the documents do not allow: arguments out of range; for a checked print, after one that ended with 13, a 10 first; for a
+/// waiting one an input that is too long, by itself and with a limit that is out of range too. A waiting print may begin with 10, and is not refused for it.
 fn wrongly_given(call: &Call) -> Vec<Call> {
     match call {
+        Call::PrintWaiting(..) => {
+            let long = vec![10; LONGEST_INPUT + 1];
+            let inputs = [vec![10], long[1..].to_vec(), long];
+            inputs
+                .into_iter()
+                .flat_map(|bytes| [0, MOST_ROWS, MOST_ROWS + 1, u32::MAX].map(|rows| Call::PrintWaiting(bytes.clone(), rows)))
+                .collect()
+        }
         Call::PrintChecked(_) => vec![Call::PrintChecked(vec![10]), Call::PrintChecked(b"\n\r".to_vec())],
         _ => arguments_out_of_range(call),
     }

@@ -15,6 +15,7 @@ use crate::random::{runner, try_all, Game};
 use crate::reports::{self, Count, Kind, KINDS, MIRROR, RECORD_AT, REPORT};
 use crate::tally::Tally;
 use crate::trial::{self, filler, Lent};
+use crate::waiting::Waited;
 use futonrobin::ffi;
 use proptest::collection::vec;
 use proptest::prelude::*;
@@ -26,7 +27,7 @@ use std::fmt;
 use std::rc::Rc;
 
 /// Each of these must have happened to a good number of arrivals.
-pub const TELLING: [&str; 6] = [APPLIED, OLD_OR_EARLY, FOLLOWED, EARLIER_SITTING, LATER_SITTING, AFTER_CR];
+pub const TELLING: [&str; 7] = [APPLIED, OLD_OR_EARLY, FOLLOWED, EARLIER_SITTING, LATER_SITTING, AFTER_CR, AFTER_WAITING];
 
 const APPLIED: &str = "applied";
 const OLD_OR_EARLY: &str = "old or early";
@@ -35,6 +36,8 @@ const EARLIER_SITTING: &str = "of an earlier sitting";
 const LATER_SITTING: &str = "steps of a later sitting";
 /// The mirror then shows a screen on which a print ended with 13.
 const AFTER_CR: &str = "after 13";
+/// The mirror then shows what a waiting print has left that stopped before its end.
+const AFTER_WAITING: &str = "after a waiting print";
 
 /// `cases` terminals, each with its sittings, lines and mirrors.
 pub fn lines(seed: u64, cases: u32, counts: &mut Counts) -> Result<(), String> {
@@ -66,7 +69,7 @@ impl fmt::Debug for Plan {
 
 /// One to four sittings. In every second plan their numbers grow, as a host should have it; in the others a restart may have a smaller number.
 fn plans() -> impl Strategy<Value = Plan> {
-    let sittings = vec(lists::lists(20), 1..5);
+    let sittings = vec(lists::lists_with_waiting(20), 1..5);
     (sittings, any::<bool>(), any::<bool>(), any::<u64>()).prop_map(|(mut sittings, growing, mixed, line)| {
         let mut used = HashSet::new();
         sittings.retain(|list| used.insert(list.sitting));
@@ -84,6 +87,8 @@ struct Sitting {
     game: Game,
     /// The Rust's screen after each number of accepted calls, as a record of that pair, touched 0.
     shown: Vec<Vec<u8>>,
+    /// The serials that a waiting print has left which stopped before its end.
+    waited: HashSet<u32>,
 }
 
 impl Sitting {
@@ -92,15 +97,18 @@ impl Sitting {
         let width = if list.width == 80 { pick(random, &[80, 80, 80, 0, 39, 41, 296, u32::MAX]) } else { list.width };
         let game = Game::new(width, list.sitting)?;
         let shown = vec![game.record.clone()];
-        Ok(Self { width, game, shown })
+        Ok(Self { width, game, shown, waited: HashSet::new() })
     }
 
     /// A call with this output, and whether it was accepted.
     fn call(&mut self, call: &Call, out: &[u8], tally: &mut Tally) -> Result<bool, String> {
         let before = serial(&self.game.record);
-        self.game.call_with(call, out, tally)?;
+        let answer = self.game.call_with(call, out, tally)?;
         let accepted = serial(&self.game.record) != before;
         if accepted {
+            if matches!(call, Call::PrintWaiting(bytes, _) if Waited::of_answer(answer).taken < bytes.len()) {
+                self.waited.insert(before + 1);
+            }
             let mut shown = self.game.record.clone();
             set_touched(&mut shown, 0);
             self.shown.push(shown);
@@ -120,10 +128,10 @@ impl Sitting {
     }
 }
 
-/// The screen that a pair names.
-fn named(sittings: &[Sitting], pair: Pair) -> &[u8] {
+/// The sitting of a pair.
+fn of(sittings: &[Sitting], pair: Pair) -> &Sitting {
     let of = sittings.iter().find(|of| sitting(&of.game.record) == pair.sitting);
-    &of.expect("a count has pairs of reports that were made").shown[pair.serial as usize]
+    of.expect("a count has pairs of reports that were made")
 }
 
 struct Session {
@@ -252,7 +260,8 @@ impl Receiver {
     fn arrive(&mut self, made: &Made, sittings: &[Sitting], random: &mut TestRng, counts: &mut Counts) -> Result<(), String> {
         let before = self.count;
         let applied = self.count.arrive(made.kind, made.pair);
-        let shown = named(sittings, self.count.shown);
+        let of = of(sittings, self.count.shown);
+        let shown = &of.shown[self.count.shown.serial as usize];
         let want = Outcome { answer: self.count.level() as u32, rec: reports::mirror(self.count.newest, shown), out: made.bytes.clone() };
         let report = Lent::new(&made.bytes);
         let answer = ffi::mirror_arrive(self.mirror.bytes_mut(), report.bytes());
@@ -262,6 +271,7 @@ impl Receiver {
         counts.add(what_happened(applied, made.pair, before.shown), 1);
         counts.add("level", answer as u64);
         counts.add(AFTER_CR, ended_in_cr(shown) as u64);
+        counts.add(AFTER_WAITING, of.waited.contains(&self.count.shown.serial) as u64);
         if below(random, 100) == 0 {
             let cells = happens(random, 10);
             look(&mut self.mirror, shown, cells, counts).map_err(told)?;

@@ -64,7 +64,7 @@ impl fmt::Debug for Pieces {
 }
 
 /// Every short text of line ends, a letter and an ignored byte; and longer ones, of which the last go over row ends.
-fn texts(width: usize) -> Vec<Vec<u8>> {
+pub fn texts(width: usize) -> Vec<Vec<u8>> {
     let filled = |n: usize, end: &[u8]| [&vec![b'L'; n], end].concat();
     let longer: [&[u8]; 5] =
         [b"\r\x07\r\n\x07", b"A\rB\nC\n\rD", b"\x1b\r\n \r\n\r", b"\r\n\r\n\n\r", b"WARD 7\r\n\r\nBED 12\r\x07\n\n\r\r\n"];
@@ -97,7 +97,7 @@ fn after_print(width: usize, bytes: Vec<u8>) -> Vec<u8> {
     oracle::record_after(&oracle::new_record(width as u32, 0), &call, &screen)
 }
 
-fn spoken(rec: &[u8]) -> String {
+pub fn spoken(rec: &[u8]) -> String {
     let screen = if flagged(rec, 0) { "full" } else { "blank" };
     format!("a {screen} screen, cursor {:?}, insert {}, after 13 {}", cursor(rec), inserting(rec), ended_in_cr(rec))
 }
@@ -116,15 +116,28 @@ fn every_cut_of(text: &[u8], start: &[u8], tally: &mut Tally) -> Result<(), Stri
 }
 
 /// What one print of a whole text leaves. Serial and touched rows are 0: they tell of calls, and not of what is shown.
-struct Whole(Vec<u8>);
+pub struct Whole(Vec<u8>);
 
 impl Whole {
-    /// By the archive and by the Rust. A text that begins with the 10 of a 13 printed before has an ignored byte there.
+    /// A text that begins with the 10 of a 13 printed before has an ignored byte there.
     fn printed(text: &[u8], start: &[u8], tally: &mut Tally) -> Result<Self, String> {
-        let call = Call::PrintBytes(if splits(text, last_taken(start)) { without_lf(text) } else { text.to_vec() });
+        Self::unchecked(if splits(text, last_taken(start)) { without_lf(text) } else { text.to_vec() }, start, tally)
+    }
+
+    /// By the archive and by the Rust.
+    pub fn unchecked(text: Vec<u8>, start: &[u8], tally: &mut Tally) -> Result<Self, String> {
+        let call = Call::PrintBytes(text);
         let want = trial::single(&call, start, &[]).map_err(|difference| format!("{call}: {difference}"))?;
         tally.count(&call, start, want.answer);
         Ok(Self(without_stamp(want.rec)))
+    }
+
+    /// Nothing, if a record shows this too; else the first byte that differs.
+    pub fn shown_by(&self, rec: Vec<u8>) -> Result<(), String> {
+        match without_stamp(rec).iter().zip(&self.0).position(|(shown, whole)| shown != whole) {
+            Some(at) => Err(format!("at the end byte {at} ({}) is not that of one print of all", name(at))),
+            None => Ok(()),
+        }
     }
 }
 
@@ -135,12 +148,12 @@ fn without_stamp(mut rec: Vec<u8>) -> Vec<u8> {
 }
 
 /// A 13, if the record's bit tells of it; of other bytes it does not tell.
-fn last_taken(start: &[u8]) -> Option<u8> {
+pub fn last_taken(start: &[u8]) -> Option<u8> {
     ended_in_cr(start).then_some(CR)
 }
 
 /// Whether an input begins with the 10 of a 13 that was the last byte taken.
-fn splits(input: &[u8], last_taken: Option<u8>) -> bool {
+pub fn splits(input: &[u8], last_taken: Option<u8>) -> bool {
     input.first() == Some(&LF) && last_taken == Some(CR)
 }
 
@@ -150,7 +163,7 @@ fn without_lf(input: &[u8]) -> Vec<u8> {
 
 /// Checked prints of the inputs, one after the other. Each is refused exactly if it splits a line end, changes nothing then, and is printed again
 /// without its 10; at the end the record shows what one print of the whole leaves.
-fn in_turn(inputs: &[&[u8]], start: &[u8], whole: &Whole, tally: &mut Tally) -> Result<(), String> {
+pub fn in_turn(inputs: &[&[u8]], start: &[u8], whole: &Whole, tally: &mut Tally) -> Result<(), String> {
     let mut rec = start.to_vec();
     let mut last_taken = last_taken(start);
     for (number, input) in (1..).zip(inputs) {
@@ -163,10 +176,7 @@ fn in_turn(inputs: &[&[u8]], start: &[u8], whole: &Whole, tally: &mut Tally) -> 
         }
         last_taken = input.last().copied().or(last_taken);
     }
-    match without_stamp(rec).iter().zip(&whole.0).position(|(in_turn, whole)| in_turn != whole) {
-        Some(at) => Err(format!("at the end byte {at} ({}) is not that of one print of all", name(at))),
-        None => Ok(()),
-    }
+    whole.shown_by(rec)
 }
 
 /// One checked print, compared as every call is; and it must answer this.

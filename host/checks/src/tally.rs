@@ -28,7 +28,7 @@ impl Tally {
             _ => self.others += 1,
         }
         if call.kind() != Kind::New {
-            self.corners.count(call, rec);
+            self.corners.count(call, rec, answer);
         }
     }
 
@@ -77,9 +77,12 @@ pub fn add_round(parts: &mut [Part], round: Vec<Part>) {
     }
 }
 
-/// Prints the table of parts and of corners. Answers whether all held: no difference, and each corner met by the part named `lists`, so that
-/// it is known to be met from a new screen too.
-pub fn report(parts: &[Part], lists: &str) -> bool {
+/// Each corner must be met so often.
+const FEWEST: u64 = 50;
+
+/// Prints the table of parts and of corners. Answers whether all held: no difference, each corner met often enough, and met by a part that is named in
+/// `lists`, so that it is known to be met from a new screen too.
+pub fn report(parts: &[Part], lists: &[&str]) -> bool {
     println!("{:44} {:>10} {:>10} {:>10} {:>10} {:>8}", "", "begun with", "changing", "other", "refused", "seconds");
     let mut sum = Tally::default();
     for part in parts {
@@ -88,18 +91,23 @@ pub fn report(parts: &[Part], lists: &str) -> bool {
     }
     print_row("all", &sum, parts.iter().map(|part| part.time).sum());
     println!("{} calls\n", sum.calls());
-    let by_lists = parts.iter().find(|part| part.name == lists).map(|part| part.tally.corners.clone()).unwrap_or_default();
+    let mut by_lists = Corners::default();
+    parts.iter().filter(|part| lists.contains(&part.name)).for_each(|part| by_lists.add(&part.tally.corners));
     print_corners(&by_lists, &sum.corners);
-    let missed: Vec<_> = by_lists.named().filter(|&(_, n)| n == 0).map(|(name, _)| name).collect();
+    let below = |corners: &Corners, fewest| corners.named().filter(|&(_, n)| n < fewest).map(|(name, _)| name).collect::<Vec<_>>();
+    let (missed, seldom) = (below(&by_lists, 1), below(&sum.corners, FEWEST));
     if !missed.is_empty() {
         println!("NEVER MET by lists: {}", missed.join("; "));
+    }
+    if !seldom.is_empty() {
+        println!("MET LESS THAN {FEWEST} TIMES: {}", seldom.join("; "));
     }
     for part in parts {
         if let Some(found) = &part.found {
             println!("DIFFERENCE in {}: {}", part.name, found.lines().next().unwrap_or_default());
         }
     }
-    missed.is_empty() && parts.iter().all(|part| part.found.is_none())
+    missed.is_empty() && seldom.is_empty() && parts.iter().all(|part| part.found.is_none())
 }
 
 fn print_corners(by_lists: &Corners, by_all: &Corners) {

@@ -90,6 +90,7 @@ mod two_slices {
     extern "C" {
         pub fn screen_print_bytes(rec: *mut u8, len: usize, bytes: *const u8, bytes_len: usize) -> u32;
         pub fn screen_print_checked(rec: *mut u8, len: usize, bytes: *const u8, bytes_len: usize) -> u32;
+        pub fn screen_print_waiting(rec: *mut u8, len: usize, bytes: *const u8, bytes_len: usize, rows: u32) -> u32;
         pub fn screen_take_logical_line(rec: *mut u8, len: usize, out: *mut u8, out_len: usize) -> u32;
         pub fn mirror_arrive(mir: *mut u8, len: usize, report: *const u8, report_len: usize) -> u32;
         pub fn keys_strip(tab: *const u8, len: usize, offset: u32, width: u32, out: *mut u8, out_len: usize) -> u32;
@@ -102,6 +103,10 @@ pub fn screen_print_bytes(rec: &mut [u8], bytes: &[u8]) -> u32 {
 
 pub fn screen_print_checked(rec: &mut [u8], bytes: &[u8]) -> u32 {
     unsafe { two_slices::screen_print_checked(rec.as_mut_ptr(), rec.len(), bytes.as_ptr(), bytes.len()) }
+}
+
+pub fn screen_print_waiting(rec: &mut [u8], bytes: &[u8], rows: u32) -> u32 {
+    unsafe { two_slices::screen_print_waiting(rec.as_mut_ptr(), rec.len(), bytes.as_ptr(), bytes.len(), rows) }
 }
 
 pub fn screen_take_logical_line(rec: &mut [u8], out: &mut [u8]) -> u32 {

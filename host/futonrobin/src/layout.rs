@@ -11,6 +11,8 @@ pub const KEY_TABLE: usize = 160;
 pub const REPORT: usize = 4047;
 /// The longest logical line, and the shortest output for one.
 pub const LINE: usize = 255;
+/// The longest input of a waiting print.
+pub const WAITING: usize = 65_535;
 /// The shortest output for a snapshot.
 pub const SNAPSHOT: usize = 2024;
 

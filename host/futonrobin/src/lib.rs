@@ -43,6 +43,7 @@ mod refusal;
 mod report;
 mod screen;
 mod shown;
+mod waiting;
 
 pub use keys::KeyTable;
 pub use mirror::Mirror;
@@ -51,3 +52,4 @@ pub use refusal::Refusal;
 pub use report::{Kind, Report};
 pub use screen::Screen;
 pub use shown::{Cell, Shown};
+pub use waiting::Waited;

@@ -16,6 +16,8 @@ pub enum Refusal {
     BrokenReport = 5,
     /// 6: a step report changes the width without carrying all rows.
     WidthWithoutRows = 6,
+    /// 7: a waiting print is handed more than 65,535 bytes. [`Screen::print_waiting`](crate::Screen::print_waiting) hands over no more.
+    LongInput = 7,
     /// 13: a checked print begins with 10 while [`ended_in_cr`](crate::Shown::ended_in_cr) holds. [`Screen::print_checked`](crate::Screen::print_checked)
     /// says what to do then.
     SplitLineEnd = 13,
@@ -23,7 +25,7 @@ pub enum Refusal {
 
 use Refusal::*;
 
-const ALL: [Refusal; 7] = [WrongLength, BrokenLayout, OutOfRange, SpentSerial, BrokenReport, WidthWithoutRows, SplitLineEnd];
+const ALL: [Refusal; 8] = [WrongLength, BrokenLayout, OutOfRange, SpentSerial, BrokenReport, WidthWithoutRows, LongInput, SplitLineEnd];
 
 /// Refusal k is this and k.
 const REFUSED: u32 = 4_294_967_040;
@@ -52,6 +54,7 @@ impl Refusal {
             SpentSerial => "the serial is spent: this screen has taken 4,294,967,295 calls",
             BrokenReport => "the report breaks its layout",
             WidthWithoutRows => "the step report changes the width without carrying all 25 rows",
+            LongInput => "a waiting print takes 65,535 bytes at most",
             SplitLineEnd => "a line end is split: 13 was printed last, and these bytes begin with its 10",
         }
     }

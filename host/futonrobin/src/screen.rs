@@ -1,7 +1,8 @@
 //! The screen that is typed on.
 use crate::layout::{LINE, REPORT, SCREEN};
 use crate::shown::{brief, kept, text};
-use crate::{ffi, Refusal, Report, Shown};
+use crate::waiting::piece;
+use crate::{ffi, Refusal, Report, Shown, Waited};
 use std::fmt;
 
 /// A screen record of its own. Every changing call may be refused for a spent serial, after 4,294,967,295 of them; where another refusal is
@@ -66,6 +67,32 @@ impl Screen {
     /// open, and the next 10, a newline of its own, would be refused too.
     pub fn print_checked(&mut self, bytes: &[u8]) -> Result<(), Refusal> {
         Refusal::of_answer(ffi::screen_print_checked(&mut self.record, bytes)).map(drop)
+    }
+
+    /// Prints as [`Screen::print_bytes`] does, but stops before the byte that would scroll one row more than `rows`: 0 to 1,000, more is refused. What
+    /// [`Waited::taken`] leaves over is for the next call, and all together look like one print. With 0 a call at the bottom may take nothing; with more
+    /// each takes something.
+    ///
+    /// ```
+    /// use futonrobin::{Refusal, Screen, Shown};
+    ///
+    /// let mut screen = Screen::new(80, 1);
+    /// let list = "BED\r\n".repeat(100);
+    /// let mut rest = list.as_bytes();
+    /// let mut screens = 0;
+    /// while !rest.is_empty() {
+    ///     let waited = screen.print_waiting(rest, screen.editable_rows() - 1)?;
+    ///     rest = &rest[waited.taken..];
+    ///     screens += 1; // here the reader presses a key
+    /// }
+    /// assert_eq!(screens, 4);
+    /// # Ok::<(), Refusal>(())
+    /// ```
+    ///
+    /// A call hands over 65,535 bytes at most. A longer text is cut there, a byte sooner where a 13 would be parted from its 10: then less than the
+    /// whole may be taken although fewer rows than `rows` were scrolled, and the next call goes on.
+    pub fn print_waiting(&mut self, bytes: &[u8], rows: u32) -> Result<Waited, Refusal> {
+        Refusal::of_answer(ffi::screen_print_waiting(&mut self.record, piece(bytes), rows)).map(Waited::of_answer)
     }
 
     /// Submits the logical line under the cursor: its text.

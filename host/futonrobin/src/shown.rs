@@ -48,7 +48,7 @@ pub trait Shown {
         self.record()[BITS_AT] & INSERT_BIT != 0
     }
 
-    /// Whether the last changing call was a print that ended with 13, prints of no bytes aside: a 10 that is printed next belongs to it.
+    /// Whether the last changing call was a print whose last byte taken is 13, prints that took no byte aside: a 10 that is printed next belongs to it.
     fn ended_in_cr(&self) -> bool {
         self.record()[BITS_AT] & CR_BIT != 0
     }

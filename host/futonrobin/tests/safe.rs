@@ -1,9 +1,11 @@
 //! The safe types: what they refuse, and that they hand the calls over as they are meant.
 use futonrobin::layout::{KEY_TABLE, MIRROR, SCREEN};
-use futonrobin::{drop_in, KeyTable, Kind, Mirror, Pair, Refusal, Report, Screen, Shown};
+use futonrobin::{drop_in, ffi, KeyTable, Kind, Mirror, Pair, Refusal, Report, Screen, Shown, Waited};
 
 /// Where document 01 has a record's serial.
 const SERIAL: std::ops::Range<usize> = 9..13;
+/// Where the documents have serial, sitting and touched rows of a record.
+const STAMP: std::ops::Range<usize> = 9..21;
 /// Where records, reports and mirrors have their version.
 const VERSION: usize = 2;
 /// Where document 02 has a record's insert and, beside it, that a print ended with 13.
@@ -26,6 +28,7 @@ fn refusals_have_the_documents_numbers() {
         (4, Refusal::SpentSerial),
         (5, Refusal::BrokenReport),
         (6, Refusal::WidthWithoutRows),
+        (7, Refusal::LongInput),
         (13, Refusal::SplitLineEnd),
     ] {
         assert_eq!(refusal.number(), number);
@@ -107,9 +110,10 @@ fn every_sitting_is_taken_and_answered() {
 #[test]
 fn changing_calls_keep_the_sitting() {
     let mut screen = Screen::new(80, 0x0102_0304);
-    let calls: [Change; 9] = [
+    let calls: [Change; 10] = [
         |screen| screen.print_bytes(&[b'A'; 3000]),
         |screen| screen.print_checked(b"WARD 7\r"),
+        |screen| screen.print_waiting(b"WARD 8\r\n", 1).map(drop),
         |screen| screen.type_char(b'B'),
         Screen::escape_line,
         Screen::clear,
@@ -169,8 +173,10 @@ fn a_spent_serial_refuses_every_changing_call() {
     assert_eq!(screen.type_char(b'A'), Err(Refusal::SpentSerial));
     assert_eq!(screen.print_bytes(b"A"), Err(Refusal::SpentSerial));
     assert_eq!(screen.print_checked(b"\n"), Err(Refusal::SpentSerial));
+    assert_eq!(screen.print_waiting(b"", 0), Err(Refusal::SpentSerial));
     assert_eq!(screen.take_logical_line(), Err(Refusal::SpentSerial));
     assert_eq!(screen.set_width(41), Err(Refusal::OutOfRange), "3 comes before 4");
+    assert_eq!(screen.print_waiting(b"", 1_001), Err(Refusal::OutOfRange), "3 comes before 4");
     assert!(screen == before);
 }
 
@@ -183,7 +189,9 @@ fn arguments_out_of_range_are_refused() {
     assert_eq!(screen.continues(24), Ok(false));
     assert_eq!(screen.continues(25), Err(Refusal::OutOfRange));
     assert_eq!(screen.set_width(41), Err(Refusal::OutOfRange));
-    assert_eq!(screen.serial(), 0);
+    assert_eq!(screen.print_waiting(b"A", 1_001), Err(Refusal::OutOfRange));
+    assert_eq!(screen.print_waiting(&[b'A'; 70_000], u32::MAX), Err(Refusal::OutOfRange));
+    assert!(screen == Screen::new(40, 3));
     let keys = KeyTable::standard();
     assert_eq!(keys.strip(10, 80), Err(Refusal::OutOfRange));
     assert_eq!(keys.strip(0, 81), Err(Refusal::OutOfRange));
@@ -208,12 +216,15 @@ fn what_is_typed_is_shown() {
 }
 
 /// What comes between a 13 and its 10, and whether the 10 is then refused.
-const BETWEEN: [(&str, Change, bool); 7] = [
+const BETWEEN: [(&str, Change, bool); 10] = [
     ("nothing", |_| Ok(()), true),
     ("a print of no bytes", |screen| screen.print_bytes(b""), true),
     ("a checked print of no bytes", |screen| screen.print_checked(b""), true),
+    ("a waiting print of no bytes", |screen| screen.print_waiting(b"", 0).map(drop), true),
     ("an ignored byte", |screen| screen.print_checked(b"\x07"), false),
+    ("an ignored byte, waiting", |screen| screen.print_waiting(b"\x07", 0).map(drop), false),
     ("the 10, unchecked", |screen| screen.print_bytes(b"\n"), false),
+    ("the 10, waiting", |screen| screen.print_waiting(b"\n", 0).map(drop), false),
     ("another call", Screen::end_of_line, false),
     ("a call that changes nothing", |screen| screen.set_insert(screen.insert_mode()), false),
 ];
@@ -272,6 +283,105 @@ fn pieces_look_like_the_whole() {
             "{first}, {second}"
         );
     }
+}
+
+/// What is shown, and not by which calls: the record without serial, sitting and touched rows.
+fn shown(screen: &Screen) -> [&[u8]; 2] {
+    [&screen.record()[..STAMP.start], &screen.record()[STAMP.end..]]
+}
+
+/// A screen of 80 columns whose last editable row has the cursor, at this column.
+fn at_the_bottom(col: u32) -> Screen {
+    let mut screen = Screen::new(80, 3);
+    screen.set_cursor(23, col).unwrap();
+    screen
+}
+
+#[test]
+fn a_waiting_print_stops_before_the_byte_that_scrolls() {
+    for (bytes, rows, taken, scrolled) in [
+        (&b"AB"[..], 0, 1, 0),
+        (b"AB", 1, 2, 1),
+        (b"A\x07\x07B", 0, 3, 0),
+        (b"\r\n", 0, 0, 0),
+        (b"\r\n", 1, 2, 1),
+        (b"\r\n\n", 1, 2, 1),
+        (b"\n\r", 1, 1, 1),
+        (b"\r\r\n", 1, 1, 1),
+        (b"\r\r\n", 2, 3, 2),
+        (b"A\r\n\x07BED\r\n\r\n", 2, 9, 2),
+        // the 13 only clears the flag that B has set, and scrolls nothing
+        (b"AB\r\nC\n", 1, 5, 1),
+    ] {
+        let (mut screen, mut whole) = (at_the_bottom(78), at_the_bottom(78));
+        assert_eq!(screen.print_waiting(bytes, rows), Ok(Waited { taken, scrolled }), "{bytes:?}, {rows}");
+        whole.print_bytes(&bytes[..taken]).unwrap();
+        assert!(screen == whole, "{bytes:?}, {rows}");
+    }
+}
+
+#[test]
+fn a_waiting_print_that_takes_nothing_is_accepted() {
+    let mut screen = at_the_bottom(0);
+    screen.print_bytes(b"WARD 7\r").unwrap();
+    let before = screen.clone();
+    for (bytes, serial) in [&b""[..], b"\n", b"\r\nA"].iter().zip(3..) {
+        assert_eq!(screen.print_waiting(bytes, 0), Ok(Waited { taken: 0, scrolled: 0 }));
+        assert_eq!((shown(&screen), screen.serial(), screen.ended_in_cr()), (shown(&before), serial, true));
+    }
+}
+
+/// More lines than one call can take bytes of, so long that 65,535 bytes scroll fewer rows than 1,000; a 13 and its 10 stand from `at` on.
+fn long_text(at: usize) -> Vec<u8> {
+    let mut text: Vec<u8> = (0..2_000).flat_map(|k| format!("{k:076}\r\n").into_bytes()).collect();
+    text[at - 3..at + 5].copy_from_slice(b"END\r\nBED");
+    text
+}
+
+/// Waiting prints until nothing is left, or nothing is taken; the mirror follows each. What the first took, and what is left.
+fn print_pages<'a>(screen: &mut Screen, text: &'a [u8], rows: u32) -> (usize, &'a [u8]) {
+    let mut mirror = Mirror::new(80, 3);
+    let (mut first, mut rest) = (None, text);
+    while !rest.is_empty() {
+        let Waited { taken, scrolled } = screen.print_waiting(rest, rows).unwrap();
+        assert!(scrolled <= rows);
+        assert_eq!(mirror.arrive(screen.report_step()), Ok(true));
+        assert!(mirror.same_as(screen));
+        if taken == 0 {
+            break;
+        }
+        first = first.or(Some(taken));
+        rest = &rest[taken..];
+    }
+    (first.unwrap(), rest)
+}
+
+#[test]
+fn waiting_prints_in_turn_look_like_one_print() {
+    // the 10 is the last byte that one call can take, the one after it, or the next
+    for (cr, at_most) in [(65_533, 65_535), (65_534, 65_534), (65_535, 65_535)] {
+        let text = long_text(cr);
+        let mut whole = Screen::new(80, 3);
+        whole.print_bytes(&text).unwrap();
+        for rows in [0, 1, 23, 1_000] {
+            let mut screen = Screen::new(80, 3);
+            let (first, rest) = print_pages(&mut screen, &text, rows);
+            assert_eq!((first == at_most, rest.is_empty()), (rows == 1_000, rows > 0), "{cr}, {rows}");
+            screen.print_bytes(rest).unwrap();
+            assert_eq!(shown(&screen), shown(&whole), "{cr}, {rows}");
+        }
+    }
+}
+
+#[test]
+fn the_call_itself_refuses_a_long_input() {
+    let (mut record, long) = (spent().record().to_vec(), [b'A'; 65_536]);
+    let before = record.clone();
+    let mut refusal = |bytes: &[u8], rows| Refusal::of_answer(ffi::screen_print_waiting(&mut record, bytes, rows)).unwrap_err();
+    assert_eq!(refusal(&long, 1_001), Refusal::OutOfRange, "3 comes before 7");
+    assert_eq!(refusal(&long, 1_000), Refusal::LongInput, "7 comes before 4");
+    assert_eq!(refusal(&long[1..], 1_000), Refusal::SpentSerial);
+    assert!(record == before);
 }
 
 #[test]

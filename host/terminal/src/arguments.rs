@@ -34,6 +34,8 @@ pub struct Arguments {
     pub seed: Option<u64>,
     pub sitting: Option<u32>,
     pub keys: Option<String>,
+    /// The file of a text that is printed in the place of the ward list.
+    pub print: Option<String>,
 }
 
 /// What the words ask for, or a sentence about the first that cannot be taken. `./run` judges words in the same way before there is a program, but for
@@ -73,9 +75,9 @@ fn not_understood(word: &str) -> String {
 /// The words that take one after them, by the program that is started.
 fn words_of(program: Option<&str>) -> &'static [&'static str] {
     match program {
-        None => &["--width", "--loss", "--repeat", "--reorder", "--seed"],
-        Some("candidate") => &["--to", "--key", "--keys", "--width", "--loss", "--repeat", "--reorder", "--seed", "--sitting"],
-        Some(_) => &["--listen", "--key", "--keys"],
+        None => &["--width", "--loss", "--repeat", "--reorder", "--seed", "--print"],
+        Some("candidate") => &["--to", "--key", "--keys", "--width", "--loss", "--repeat", "--reorder", "--seed", "--sitting", "--print"],
+        Some(_) => &["--listen", "--key", "--keys", "--print"],
     }
 }
 
@@ -91,13 +93,15 @@ fn needed_of(program: Option<&str>) -> &'static [(&'static str, &'static str)] {
 
 /// What the words mean with their values.
 fn valued(given: &[(String, String)]) -> Result<Arguments, String> {
-    let mut arguments = Arguments { place: Place::Both, key: None, width: None, faults: None, seed: None, sitting: None, keys: None };
+    let mut arguments =
+        Arguments { place: Place::Both, key: None, width: None, faults: None, seed: None, sitting: None, keys: None, print: None };
     for (word, value) in given {
         match word.as_str() {
             "--to" => arguments.place = Place::To(address_of(value, 1)?),
             "--listen" => arguments.place = Place::Listen(address_of(value, 0)?),
             "--key" => arguments.key = Some(value.into()),
             "--keys" => arguments.keys = Some(value.into()),
+            "--print" => arguments.print = Some(value.into()),
             "--width" => arguments.width = Some(width_of(value)?),
             "--seed" => arguments.seed = Some(number_of(word, value, u64::MAX)?),
             "--sitting" => arguments.sitting = Some(number_of(word, value, u32::MAX.into())? as u32),

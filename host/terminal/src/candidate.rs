@@ -6,7 +6,8 @@ use crate::desk::Desk;
 use crate::front::{Front, Page, HINT};
 use crate::help;
 use crate::keys::Key;
-use crate::panel::{Area, Panel, AROUND, SCREEN};
+use crate::listing::{Listing, Text};
+use crate::panel::{in_sight, Area, Panel, AROUND, SCREEN};
 use crate::sitting::{self, Told};
 use crate::span;
 use crate::submitted;
@@ -37,6 +38,7 @@ pub struct Start {
     pub faults: Faults,
     pub seed: u64,
     pub sitting: sitting::Chosen,
+    pub text: Text,
 }
 
 struct Candidate {
@@ -59,8 +61,8 @@ struct Candidate {
 
 impl Candidate {
     /// The first that goes out is a full report: a mirror that shows an earlier sitting takes nothing else for the beginning of this one.
-    fn new(Start { to, shared, width, faults, seed, sitting }: Start) -> io::Result<Self> {
-        let (desk, mut clock) = (Desk::new(width, sitting.number), Clock::new());
+    fn new(Start { to, shared, width, faults, seed, sitting, text }: Start) -> io::Result<Self> {
+        let (desk, mut clock) = (Desk::printing(Listing::new(text), width, sitting.number), Clock::new());
         let now = clock.now();
         let end = line::Candidate::new(&shared, &desk.screen, now);
         let (bad_line, socket) = (BadLine::new(faults, seed), socket_to(to)?);
@@ -77,6 +79,23 @@ impl Candidate {
             self.send(sent);
         }
         Ok(())
+    }
+
+    /// Presses a key in a terminal of this size.
+    fn press_in(&mut self, key: Key, size: Size) {
+        self.desk.in_sight = in_sight(size.rows, &self.desk.screen) as u32;
+        if let Err(refusal) = self.press(key) {
+            self.desk.submitted.push(format!("({refusal})"));
+        }
+    }
+
+    /// While a text waits and can be seen, what means nothing else here goes on with it.
+    fn meant(&self, input: Input) -> Input {
+        match input {
+            _ if !self.desk.listing.waits() || self.front.page().is_some() => input,
+            Input::Leave | Input::Help | Input::Submitted | Input::Key(Key::Escape) => input,
+            _ => Input::Key(Key::Print),
+        }
     }
 
     fn full(&mut self) {
@@ -147,13 +166,16 @@ impl Candidate {
         }
     }
 
-    /// What is known of the invigilator, or what is asked; how one types; and what has no row of its own.
+    /// What is known of the invigilator, or what is asked; how one types; and what has no row of its own. While a text waits nobody types: that it does
+    /// stands first, and the invigilator next.
     fn status(&self, last_line: bool, note: bool, cols: usize) -> Vec<Vec<Part>> {
-        let first = self.front.question(self.desk.other_width()).map_or_else(|| self.invigilator(), |question| vec![question]);
+        let waits = self.desk.listing.told();
+        let words = if waits.is_some() { self.invigilator() } else { self.words.of(&self.desk.screen) };
+        let told = self.front.question(self.desk.other_width()).or(waits);
+        let first = told.map_or_else(|| self.invigilator(), |told| vec![told]);
         let note = (note && !self.notice.is_empty()).then(|| ("note on the sitting: Ctrl-P".into(), YELLOW));
         let submitted = if last_line { submitted::in_a_row(&self.desk.submitted, cols) } else { None };
-        let words = self.words.of(&self.desk.screen).into_iter().chain(note).collect();
-        vec![first, words, submitted.into_iter().collect()]
+        vec![first, words.into_iter().chain(note).collect(), submitted.into_iter().collect()]
     }
 
     /// What there is to know about the sitting: what follows, and why.
@@ -213,21 +235,20 @@ impl Program for Candidate {
     }
 
     fn input(&mut self, input: Input, size: Size) -> Then {
-        match self.front.take(input, size) {
+        match self.front.take(self.meant(input), size) {
             Some(Input::Leave) => return Then::Leave,
-            Some(Input::Key(key)) => {
-                if let Err(refusal) = self.press(key) {
-                    self.desk.submitted.push(format!("({refusal})"));
-                }
-            }
+            Some(Input::Key(key)) => self.press_in(key, size),
             _ => {}
         }
         Then::GoOn
     }
 }
 
-pub fn in_terminal(start: Start) -> io::Result<()> {
-    terminal::run(&mut Candidate::new(start)?)
+/// Presses these keys at the start.
+pub fn in_terminal(start: Start, first: &[Key]) -> io::Result<()> {
+    let (mut candidate, size) = (Candidate::new(start)?, terminal::size()?);
+    first.iter().for_each(|&key| candidate.press_in(key, size));
+    terminal::run(&mut candidate)
 }
 
 /// Presses the keys one after the other. It holds if the invigilator tells at the end that it shows the last screen.
@@ -274,7 +295,7 @@ mod tests {
             let told = (0..notices).map(|n| Told { what: format!("notice {n}"), why: format!("because of {n}") }).collect();
             let (shared, sitting) = (SharedKey::draw(), sitting::Chosen { number: 7, told });
             let (to, faults) = (([127, 0, 0, 1], 9).into(), Faults::default());
-            let start = Start { to, shared: shared.clone(), width: 40, faults, seed: 1, sitting };
+            let start = Start { to, shared: shared.clone(), width: 40, faults, seed: 1, sitting, text: Text::wards() };
             Self { candidate: Candidate::new(start).unwrap(), shared }
         }
 
@@ -365,6 +386,37 @@ mod tests {
         scene.types("B");
         assert!(scene.rows(24)[1].starts_with("AB ") && !scene.rows(24)[21].starts_with("Leave? "));
         assert_eq!([Input::Leave; 2].map(|input| scene.candidate.input(input, USUAL)), [Then::GoOn, Then::Leave]);
+    }
+
+    #[test]
+    fn a_text_that_waits_for_a_key() {
+        let (mut scene, wards) = (Scene::new(1), include_str!("../data/wards.txt").lines().collect::<Vec<_>>());
+        let pressed = |scene: &mut Scene, input: Input| assert_eq!(scene.candidate.input(input, USUAL), Then::GoOn);
+        // The first and the last row in sight, which are these of the list, and what is told.
+        let page = |scene: &mut Scene, from: usize, told: &str| {
+            let shown = scene.rows(24);
+            let right = shown[1].starts_with(wards[from]) && shown[19].starts_with(wards[from + 18]) && shown[21].starts_with(told);
+            assert!(right, "{from}, {told}:\n{}", shown.join("\n"));
+            shown
+        };
+        pressed(&mut scene, Input::Key(Key::Print));
+        let shown = page(&mut scene, 0, "MORE: 49 lines. Any key: next screen, Esc: drops the rest         ▼ 5 rows below");
+        assert_eq!(shown[22..], ["NO INVIGILATOR HEARD yet  at 127.0.0.1:9  note on the sitting: Ctrl-P", ""]);
+        // Pages and questions are no reason to go on, nor is the key that leads back from them.
+        let others = [Input::Help, Input::Unknown, Input::Submitted, Input::Back, Input::Forth, Input::Key(Key::Enter), Input::Leave];
+        others.into_iter().for_each(|input| pressed(&mut scene, input));
+        page(&mut scene, 0, "Leave? What was typed is lost. ");
+        // Whatever else is pressed goes on, and nothing is asked.
+        pressed(&mut scene, Input::Key(Key::Width));
+        page(&mut scene, 18, "MORE: 31 lines. ");
+        pressed(&mut scene, Input::Forth);
+        page(&mut scene, 36, "MORE: 13 lines. ");
+        pressed(&mut scene, Input::Key(Key::Escape));
+        let typing = format!("room for {}  note on the sitting: Ctrl-P", 255 - wards[54].len());
+        assert_eq!(page(&mut scene, 36, "NO INVIGILATOR HEARD yet  at ")[22], typing);
+        scene.types("!");
+        assert!(scene.rows(24)[19].starts_with(&format!("{}!", wards[54])));
+        assert_eq!(scene.candidate.desk.screen.serial(), 4);
     }
 
     #[test]

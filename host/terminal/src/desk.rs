@@ -1,6 +1,8 @@
-//! The candidate's desk: the screen, what the keys do to it, the lines submitted.
+//! The candidate's desk: the screen, what the keys do to it, the lines submitted, the text that is printed a screen at a time.
 use crate::glyphs;
 use crate::keys::{self, Key};
+use crate::listing::{Listing, Text};
+use crate::panel::SCREEN;
 use futonrobin::{KeyTable, Refusal, Report, Screen, Shown};
 
 /// What the colour key goes through, the attribute of a new screen first.
@@ -10,11 +12,19 @@ pub struct Desk {
     pub screen: Screen,
     pub table: KeyTable,
     pub submitted: Vec<String>,
+    pub listing: Listing,
+    /// So many rows of the screen are in sight; where nobody looks at a terminal, all of them.
+    pub in_sight: u32,
 }
 
 impl Desk {
     pub fn new(width: u32, sitting: u32) -> Self {
-        Self { screen: Screen::new(width, sitting), table: KeyTable::standard(), submitted: Vec::new() }
+        Self::printing(Listing::new(Text::wards()), width, sitting)
+    }
+
+    /// With this text in the place of the ward list.
+    pub fn printing(listing: Listing, width: u32, sitting: u32) -> Self {
+        Self { screen: Screen::new(width, sitting), table: KeyTable::standard(), submitted: Vec::new(), listing, in_sight: SCREEN as u32 }
     }
 
     pub fn other_width(&self) -> u32 {
@@ -23,11 +33,29 @@ impl Desk {
 
     /// Presses a key, and makes a step report for each call.
     pub fn press(&mut self, key: Key) -> Result<Vec<Report>, Refusal> {
-        keys::single(key, &self.table).into_iter().map(|key| self.call(key)).collect()
+        let mut reports = Vec::new();
+        self.press_and(key, |screen| reports.push(screen.report_step()))?;
+        Ok(reports)
     }
 
-    /// The call of a key that makes one, and its step report.
-    pub fn call(&mut self, key: Key) -> Result<Report, Refusal> {
+    /// Presses a key, and hands on the screen after each call. While a text waits for a key, that key prints more of it and does nothing else; Esc drops
+    /// the rest.
+    pub fn press_and(&mut self, key: Key, mut made: impl FnMut(&Screen)) -> Result<(), Refusal> {
+        match key {
+            Key::Escape if self.listing.waits() => self.listing.drop_rest(),
+            _ if key == Key::Print || self.listing.waits() => self.listing.page(&mut self.screen, self.in_sight, made)?,
+            _ => {
+                for key in keys::single(key, &self.table) {
+                    self.call(key)?;
+                    made(&self.screen);
+                }
+            }
+        }
+        Ok(())
+    }
+
+    /// The call of a key that makes one.
+    fn call(&mut self, key: Key) -> Result<(), Refusal> {
         let screen = &mut self.screen;
         match key {
             Key::Char(ch) => screen.type_char(ch)?,
@@ -53,8 +81,9 @@ impl Desk {
             Key::Width => screen.set_width(other_width(screen))?,
             Key::Strip => screen.set_keys_on(!screen.keys_visible())?,
             Key::Function(_) => unreachable!("a function key is split into single keys"),
+            Key::Print => unreachable!("it prints a page"),
         }
-        Ok(self.screen.report_step())
+        Ok(())
     }
 }
 

@@ -8,7 +8,8 @@ use crate::desk::Desk;
 use crate::front::{Front, Page, HINT};
 use crate::help;
 use crate::keys::Key;
-use crate::panel::{Area, Painted, Panel};
+use crate::listing::{Listing, Text};
+use crate::panel::{in_sight, Area, Painted, Panel};
 use crate::span;
 use crate::submitted;
 use crate::terminal::{self, Input, Program, Then};
@@ -51,10 +52,13 @@ pub struct Halves {
     now: Instant,
 }
 
-pub fn in_terminal(width: u32, faults: Faults, seed: u64) -> io::Result<()> {
-    let mut halves = Halves::new(width, faults, seed, Instant::now());
-    let first = halves.full();
-    halves.arrive(first);
+/// Presses these keys at the start.
+pub fn in_terminal(width: u32, faults: Faults, seed: u64, text: Text, first: &[Key]) -> io::Result<()> {
+    let (mut halves, size) = (Halves::new(width, faults, seed, Instant::now()), terminal::size()?);
+    halves.desk.listing = Listing::new(text);
+    let full = halves.full();
+    halves.arrive(full);
+    first.iter().for_each(|&key| halves.press_in(key, size));
     terminal::run(&mut halves)
 }
 
@@ -74,9 +78,9 @@ impl Halves {
     }
 
     /// The candidate's terminal restarts: a new screen in the next sitting, and a full report first; what arrives now. What the line holds back
-    /// of the screen before may still come.
+    /// of the screen before may still come. A text that waits for a key does so no more.
     pub fn restart(&mut self) -> Vec<Vec<u8>> {
-        self.desk = Desk::new(self.width, self.desk.screen.sitting() + 1);
+        self.desk = Desk::printing(self.desk.listing.anew(), self.width, self.desk.screen.sitting() + 1);
         self.candidate = Candidate::new(&self.shared, &self.desk.screen, self.now);
         self.full()
     }
@@ -114,6 +118,23 @@ impl Halves {
                 self.desk.submitted.push(format!("({refusal})"));
                 Vec::new()
             }
+        }
+    }
+
+    /// A key is pressed in a terminal of this size. Nobody types on a screen that is not shown: the key leads to it.
+    fn press_in(&mut self, key: Key, size: Size) {
+        self.mirror_in_sight = false;
+        self.desk.in_sight = in_sight(size.rows.saturating_sub(LINE), &self.desk.screen) as u32;
+        let arriving = self.press(key);
+        self.arrive(arriving);
+    }
+
+    /// While a text waits, keys that would type go on with it, and such as mean nothing; those of the line and the mirror do what they do.
+    fn meant(&self, input: Input) -> Input {
+        match input {
+            Input::Key(Key::Escape) => input,
+            Input::Key(_) | Input::Unknown if self.desk.listing.waits() => Input::Key(Key::Print),
+            _ => input,
         }
     }
 
@@ -164,7 +185,8 @@ impl Halves {
             }
         };
         let lists = rows > below + LINE;
-        let under = self.front.question(self.desk.other_width()).map_or_else(|| self.line(canvas.size, !lists), |question| vec![question]);
+        let question = self.front.question(self.desk.other_width());
+        let under = question.map_or_else(|| self.under(canvas.size, !lists), |question| vec![question]);
         canvas.text_before(below, cols, HINT, PLAIN);
         canvas.parts(below, 0..cols - HINT.len() - 2, &under);
         submitted::list(canvas, below + LINE, &self.desk.submitted);
@@ -192,6 +214,11 @@ impl Halves {
         let (title, status) = (self.view.title(follower), self.view.status(follower, self.now).into());
         let panel = Panel { title, hint, shown: self.view.screen(follower), status, table: &self.desk.table };
         panel.paint(canvas, area, &mut self.windows[1])
+    }
+
+    /// That a text waits, if one does, and the line.
+    fn under(&self, size: Size, last_line: bool) -> Vec<Part> {
+        self.desk.listing.told().into_iter().chain(self.line(size, last_line)).collect()
     }
 
     /// The key to the other half where that is not in sight, the last submitted line if it has no other row, and the line between the two.
@@ -230,18 +257,13 @@ impl Program for Halves {
     }
 
     fn input(&mut self, input: Input, size: Size) -> Then {
-        match self.front.take(input, size) {
+        match self.front.take(self.meant(input), size) {
             Some(Input::Leave) => return Then::Leave,
             Some(Input::Restart) => {
                 let arriving = self.restart();
                 self.arrive(arriving);
             }
-            Some(Input::Key(key)) => {
-                // Nobody types on a screen that is not shown: the key leads to it.
-                self.mirror_in_sight = false;
-                let arriving = self.press(key);
-                self.arrive(arriving);
-            }
+            Some(Input::Key(key)) => self.press_in(key, size),
             // Where both halves are in sight there is no other.
             Some(Input::Other) if self.half(size).is_some() => {}
             Some(input) => self.turn(input),
@@ -372,6 +394,37 @@ mod tests {
         halves.input(width, BOTH);
         assert_eq!((halves.desk.screen.width(), halves.half(BOTH)), (80, None), "and is shown a half at a time");
         assert_eq!([Input::Leave; 2].map(|input| halves.input(input, BOTH)), [Then::GoOn, Then::Leave]);
+    }
+
+    #[test]
+    fn a_text_that_waits_for_a_key() {
+        for (width, size, lines) in [(40, BOTH, [44, 21]), (80, USUAL, [50, 33])] {
+            let mut halves = Halves::new(width, Faults::default(), 1, Instant::now());
+            let first = halves.full();
+            halves.arrive(first);
+            halves.input(Input::Key(Key::Print), size);
+            let told = |halves: &mut Halves| shown(halves, size)[size.rows - 1].clone();
+            let more = |lines: usize| format!("MORE: {lines} lines. Any key: next screen, Esc: drops the rest  …");
+            assert_eq!(told(&mut halves), format!("{:w$}{HINT}", more(lines[0]), w = size.cols - HINT.len()));
+            let page = |halves: &Halves| (halves.desk.screen.serial(), halves.follower().mirror().unwrap().same_as(&halves.desk.screen));
+            let others =
+                [Input::Loss, Input::Repeat, Input::Reorder, Input::Cut, Input::Cut, Input::Other, Input::Back, Input::Forth, Input::Help];
+            others.iter().for_each(|&input| assert_eq!(halves.input(input, size), Then::GoOn));
+            halves.input(Input::Unknown, size);
+            assert_eq!(
+                (page(&halves), halves.there.faults.loss),
+                ((1, true), 10),
+                "those keys do what they do, and one leads back from the page"
+            );
+            halves.there.faults = Faults::default();
+            halves.input(Input::Unknown, size);
+            assert!(told(&mut halves).starts_with(&more(lines[1])), "{}", told(&mut halves));
+            assert_eq!(page(&halves), (2, true), "the mirror shows each page");
+            halves.input(Input::Restart, size);
+            assert!(!halves.desk.listing.waits() && !told(&mut halves).contains("MORE") && page(&halves) == (0, true));
+            halves.input(Input::Key(Key::Print), size);
+            assert!(told(&mut halves).starts_with("MORE: "), "the next sitting has the same text");
+        }
     }
 
     /// The rows of a half that begins in this column, compared with the screen's cells.

@@ -38,6 +38,7 @@ pub const CANDIDATE: &[Entry] = &[
     key("Ctrl-A", "the next colour"),
     key("Ctrl-K", "key strip on and off"),
     destroying("Ctrl-W", "the other width; clears"),
+    destroying("Ctrl-F", "prints the ward list"),
     key("Ctrl-P", "submitted lines, notes"),
     key("Ctrl-G", "this page"),
     destroying("Ctrl-Q", "leaves"),

@@ -4,6 +4,7 @@ use crate::clock::Clock;
 use crate::front::{Front, Page, HINT};
 use crate::help;
 use crate::keys::Key;
+use crate::listing::Text;
 use crate::panel::{Area, Panel};
 use crate::terminal::{self, Input, Program, Then};
 use crate::udp::{drain, socket_at};
@@ -148,11 +149,12 @@ pub fn in_terminal(listen: SocketAddr, shared: &SharedKey) -> io::Result<()> {
     terminal::run(&mut Invigilator::new(listen, shared)?)
 }
 
-/// Knows the candidate's keys and compares the mirror after every report. It holds if none was wrong and the last screen was shown.
-pub fn with_keys(listen: SocketAddr, shared: &SharedKey, keys: &[Key]) -> io::Result<bool> {
-    let mut invigilator = Invigilator::new(listen, shared)?;
+/// Knows the candidate's keys, and the text that one of them prints, and compares the mirror after every report. It holds if none was wrong and the last
+/// screen was shown.
+pub fn with_keys(listen: SocketAddr, shared: &SharedKey, keys: &[Key], text: Text) -> io::Result<bool> {
+    let (mut invigilator, mut watch) = (Invigilator::new(listen, shared)?, Watch::new(Witnesses::new(keys, text)));
     println!("invigilator: listening on {}", invigilator.listen);
-    let (mut watch, begun) = (Watch::new(keys), Instant::now());
+    let begun = Instant::now();
     loop {
         invigilator.pass(|follower, from| watch.arrival(follower, from))?;
         let follower = &invigilator.end.follower;
@@ -185,8 +187,8 @@ struct Watch {
 const STRETCH: u32 = 10_000;
 
 impl Watch {
-    fn new(keys: &[Key]) -> Self {
-        Self { witnesses: Witnesses::new(keys), wrong: 0, level: 0, looks: 0, called: 0, oldest: Duration::ZERO, next: STRETCH }
+    fn new(witnesses: Witnesses) -> Self {
+        Self { witnesses, wrong: 0, level: 0, looks: 0, called: 0, oldest: Duration::ZERO, next: STRETCH }
     }
 
     fn arrival(&mut self, follower: &Follower, from: SocketAddr) {

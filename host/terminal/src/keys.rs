@@ -24,10 +24,11 @@ pub enum Key {
     CtrlEnd,
     Break,
     Function(u8),
-    /// The program's own: the next attribute, the other width, the key strip on or off.
+    /// The program's own: the next attribute, the other width, the key strip on or off, and the ward list or another text printed.
     Colour,
     Width,
     Strip,
+    Print,
 }
 
 impl Key {
@@ -40,7 +41,7 @@ impl Key {
 use Key::*;
 
 /// The keys that have a name in a file of keys, written `<Name>`. The others are characters.
-pub const NAMED: [(&str, Key); 31] = [
+pub const NAMED: [(&str, Key); 32] = [
     ("Enter", Enter),
     ("CtrlEnter", CtrlEnter),
     ("Tab", Tab),
@@ -62,6 +63,7 @@ pub const NAMED: [(&str, Key); 31] = [
     ("Colour", Colour),
     ("Width", Width),
     ("Strip", Strip),
+    ("Print", Print),
     ("F1", Function(1)),
     ("F2", Function(2)),
     ("F3", Function(3)),
@@ -110,7 +112,7 @@ pub fn write(keys: &[Key]) -> String {
     keys.iter().map(text).collect()
 }
 
-/// What is pressed, as keys that make one call each: a function key types its text, and a 13 in it submits the line.
+/// What is pressed on a screen on which nothing waits, as keys that make one call each: a function key types its text, and a 13 in it submits the line.
 pub fn single(key: Key, table: &KeyTable) -> Vec<Key> {
     match key {
         Function(number) => table.get(number).iter().map(|&byte| if byte == 13 { Enter } else { Char(byte) }).collect(),

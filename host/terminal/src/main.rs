@@ -5,6 +5,7 @@ use std::process::exit;
 use terminal::arguments::{self, Arguments, Asked, Place};
 use terminal::bad_line::{new_seed, Faults};
 use terminal::keys::{self, Key};
+use terminal::listing::Text;
 use terminal::{candidate, halves, invigilator, key_file, played, sitting};
 
 fn main() {
@@ -36,28 +37,32 @@ fn end(status: i32, sentence: &str) -> ! {
     exit(status)
 }
 
-fn run(Arguments { place, key, width, faults, seed, sitting, keys }: Arguments) -> Result<bool, String> {
+fn run(Arguments { place, key, width, faults, seed, sitting, keys, print }: Arguments) -> Result<bool, String> {
     let in_terminal = io::stdin().is_terminal() && io::stdout().is_terminal();
     let seed = seed.unwrap_or_else(new_seed);
-    let keys = keys.map(|file| from_file(&file)).transpose()?;
+    let (text, first) = text_of(print)?;
+    let keys = keys.map(|file| from_file(&file)).transpose()?.map(|keys| [first, &keys].concat());
     let shared = key.map(|file| key_file::read(&file)).transpose()?;
     let columns = width.unwrap_or(80);
     let done = match (place, keys, shared) {
-        (Place::Both, ..) if in_terminal => both(width, faults.unwrap_or(halves::FAULTS), seed),
-        (Place::Both, ..) => played::play(&played::recorded(), columns, faults.unwrap_or(Faults::BAD), seed, &mut io::stdout().lock()),
+        (Place::Both, ..) if in_terminal => both(width, faults.unwrap_or(halves::FAULTS), seed, text, first),
+        (Place::Both, ..) => {
+            let keys = [first, &played::recorded()].concat();
+            played::play(&keys, text, columns, faults.unwrap_or(Faults::BAD), seed, &mut io::stdout().lock())
+        }
         (_, None, _) if !in_terminal => {
             return Err("standard input and output are no terminal; without one, --keys FILE has the keys".into())
         }
         (_, _, None) => return Err("--key is missing".into()),
         (Place::To(to), keys, Some(shared)) => {
             let sitting = sitting::of_this_start(sitting)?;
-            let start = candidate::Start { to, shared, width: columns, faults: faults.unwrap_or_default(), seed, sitting };
+            let start = candidate::Start { to, shared, width: columns, faults: faults.unwrap_or_default(), seed, sitting, text };
             match keys {
                 Some(keys) => candidate::with_keys(start, &keys),
-                None => candidate::in_terminal(start).map(|()| true),
+                None => candidate::in_terminal(start, first).map(|()| true),
             }
         }
-        (Place::Listen(listen), Some(keys), Some(shared)) => invigilator::with_keys(listen, &shared, &keys),
+        (Place::Listen(listen), Some(keys), Some(shared)) => invigilator::with_keys(listen, &shared, &keys, text),
         (Place::Listen(listen), None, Some(shared)) => invigilator::in_terminal(listen, &shared).map(|()| true),
     };
     done.map_err(|problem| match place {
@@ -67,10 +72,18 @@ fn run(Arguments { place, key, width, faults, seed, sitting, keys }: Arguments) 
 }
 
 /// Both screens, as wide as the terminal has room for side by side; where it has none, one at a time.
-fn both(width: Option<u32>, faults: Faults, seed: u64) -> io::Result<bool> {
+fn both(width: Option<u32>, faults: Faults, seed: u64, text: Text, first: &[Key]) -> io::Result<bool> {
     let widest = if (81..161).contains(&terminal::terminal::size()?.cols) { 40 } else { 80 };
-    halves::in_terminal(width.unwrap_or(widest), faults, seed)?;
+    halves::in_terminal(width.unwrap_or(widest), faults, seed, text, first)?;
     Ok(true)
+}
+
+/// What is printed, and what is pressed at the start: who names a file wants to see it.
+fn text_of(print: Option<String>) -> Result<(Text, &'static [Key]), String> {
+    match print {
+        Some(file) => Ok((Text::of_file(&file)?, &[Key::Print])),
+        None => Ok((Text::wards(), &[])),
+    }
 }
 
 fn from_file(file: &str) -> Result<Vec<Key>, String> {

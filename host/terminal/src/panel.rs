@@ -40,7 +40,7 @@ impl<S: Shown> Panel<'_, S> {
     pub fn paint(&self, canvas: &mut Canvas, area: Area, window: &mut Window) -> Painted {
         let high = area.rows.saturating_sub(AROUND).min(SCREEN);
         let (hidden, cursor) = match self.shown {
-            Some(shown) => paint_rows(canvas, area, high, shown, self.table, window),
+            Some(shown) => paint_rows(canvas, area, shown, self.table, window),
             None => ([0, 0], None),
         };
         let marks = [mark('▲', "above", hidden[0], area.cols), mark('▼', "below", hidden[1], area.cols)];
@@ -63,18 +63,22 @@ impl<S: Shown> Panel<'_, S> {
     }
 }
 
+/// How many editable rows have room, with the key strip under them, in an area of so many rows.
+pub fn in_sight(rows: usize, shown: &impl Shown) -> usize {
+    let editable = shown.editable_rows() as usize;
+    (rows.saturating_sub(AROUND).min(SCREEN) + editable).saturating_sub(SCREEN).min(editable)
+}
+
 /// The rows that have room, and the key strip under them; how many rows are hidden above and below, and where the cursor is.
 fn paint_rows(
     canvas: &mut Canvas,
     area: Area,
-    high: usize,
     shown: &impl Shown,
     table: &KeyTable,
     window: &mut Window,
 ) -> ([usize; 2], Option<(usize, usize)>) {
     let (editable, width) = (shown.editable_rows() as usize, shown.width() as usize);
-    let strip = SCREEN - editable;
-    let height = (high - strip).min(editable);
+    let (strip, height) = (SCREEN - editable, in_sight(area.rows, shown));
     let (row, col) = shown.cursor();
     let top = window.top(shown.sitting(), row as usize, height, editable);
     canvas.rows(1, area.left, shown, top as u32..(top + height) as u32);

@@ -1,4 +1,4 @@
-//! For the tests: an invigilator's end, and candidates of any sitting and serial that speak with it.
+//! For the tests: screens, an invigilator's end, and candidates of any sitting and serial that speak with it.
 use futonrobin::{Screen, Shown};
 use line::{Candidate, Invigilator, SharedKey};
 use std::collections::BTreeMap;
@@ -12,6 +12,13 @@ pub fn screen(sitting: u32, serial: u32) -> Screen {
     let mut record = Screen::new(40, sitting).record().to_vec();
     record[SERIAL].copy_from_slice(&serial.to_be_bytes());
     Screen::from_bytes(&record).unwrap()
+}
+
+/// The cells of a screen, each with the flag of its row.
+pub fn cells(screen: &Screen) -> Vec<(u8, u8, bool)> {
+    let places = (0..25).flat_map(|row| (0..screen.width()).map(move |col| (row, col)));
+    let cell = |(row, col)| (screen.cell(row, col).unwrap(), screen.continues(row).unwrap());
+    places.map(cell).map(|(cell, flag)| (cell.ch, cell.attr, flag)).collect()
 }
 
 /// The candidates, by their sittings.

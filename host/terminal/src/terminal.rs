@@ -310,6 +310,7 @@ fn with_ctrl(code: KeyCode) -> Option<Input> {
         KeyCode::Char('a' | 'A') => Input::Key(Key::Colour),
         KeyCode::Char('k' | 'K') => Input::Key(Key::Strip),
         KeyCode::Char('w' | 'W') => Input::Key(Key::Width),
+        KeyCode::Char('f' | 'F') => Input::Key(Key::Print),
         KeyCode::Char('q' | 'Q') => Input::Leave,
         KeyCode::Char('g' | 'G') => Input::Help,
         KeyCode::Char('p' | 'P') => Input::Submitted,
@@ -357,6 +358,7 @@ mod tests {
             (KeyCode::Char('c'), ctrl, Key::Break),
             (KeyCode::F(1), none, Key::Function(1)),
             (KeyCode::F(10), none, Key::Function(10)),
+            (KeyCode::Char('f'), ctrl, Key::Print),
         ];
         for (code, modifiers, key) in table {
             assert_eq!(pressed(KeyEvent::new(code, modifiers)), [Input::Key(key)], "{code:?} {modifiers:?}");

@@ -33,6 +33,7 @@ fn words() {
     refused("--loss 101", 2, "--loss takes a number from 0 to 100, not '101'");
     refused("--width 60", 2, "--width takes 40 or 80, not '60'");
     refused("--seed x", 2, "--seed takes a number");
+    refused("--print", 2, "--print needs a value after it");
 }
 
 /// A new key in a folder, and the words that name it.
@@ -125,12 +126,26 @@ fn keys_and_terminals() {
     refused(&format!("candidate --to 127.0.0.1:4000 --keys {} {key}", file.display()), 1, "there is no key <Entr>");
 }
 
+#[test]
+fn texts_to_print() {
+    let folder = Folder::new("texts-to-print");
+    let key = with_key(&folder);
+    for program in ["", "candidate --to 127.0.0.1:4000", "invigilator --listen 127.0.0.1:0"] {
+        let words = if program.is_empty() { String::new() } else { format!("{program} --keys /dev/null {key}") };
+        refused(&format!("{words} --print"), 2, "--print needs a value after it");
+        refused(&format!("{words} --print no-such-text"), 1, "no-such-text: ");
+        refused(&format!("{words} --print {}", folder.0.display()), 1, "directory");
+        refused(&format!("{words} --print /dev/zero"), 1, "/dev/zero: it has more than 16777216 bytes");
+    }
+    refused("key --print no-such-text", 2, "'--print' is not understood here");
+}
+
 /// Words with spaces in them, and empty ones, are written with `_` and `""`.
 fn words_of(list: &str) -> Vec<String> {
     list.split_whitespace().map(|word| word.replace('_', " ").replace("\"\"", "")).collect()
 }
 
-const BAD: [&str; 30] = [
+const BAD: [&str; 33] = [
     "candiate",
     "\"\"",
     "candidate",
@@ -161,6 +176,9 @@ const BAD: [&str; 30] = [
     "invigilator --to a",
     "invigilator --listen a --key b --sitting 3",
     "candiate --hlep",
+    "--print",
+    "candidate --to 127.0.0.1:9 --key a --print",
+    "invigilator --print",
 ];
 const ANSWERED: [&str; 12] = [
     "--help",
@@ -178,11 +196,11 @@ const ANSWERED: [&str; 12] = [
 ];
 const UNDERSTOOD: [&str; 6] = [
     "",
-    "--width 40 --loss 1 --repeat 2 --reorder 3 --seed 4",
+    "--width 40 --loss 1 --repeat 2 --reorder 3 --seed 4 --print a",
     "key a",
     "--loss --help",
-    "candidate --to a --key b --keys c --sitting 5 --width 80",
-    "invigilator --listen a --key b --keys c",
+    "candidate --to a --key b --keys c --sitting 5 --width 80 --print d",
+    "invigilator --listen a --key b --keys c --print d",
 ];
 
 /// `./run` with these words, where no archive is: it must answer before it looks for one, or say that there is none.
@@ -231,7 +249,8 @@ fn help_and_the_recorded_keys() {
     let told = String::from_utf8(help.stdout).unwrap();
     assert!(help.status.success() && told.contains("./run candidate --to HOST:PORT --key FILE"));
     assert!(told.lines().all(|line| line.chars().count() <= 80), "it fits the usual terminal");
-    for words in ["", "--width 40", "--loss 60 --repeat 60 --reorder 60", "--loss 100"] {
+    let text = concat!("--print ", env!("CARGO_MANIFEST_DIR"), "/help.txt");
+    for words in ["", "--width 40", "--loss 60 --repeat 60 --reorder 60", "--loss 100", text] {
         let played = screens(words);
         let told = String::from_utf8(played.stdout).unwrap();
         assert!(played.status.success() && told.contains("\nAS PROVED: "), "{words}: {told}");

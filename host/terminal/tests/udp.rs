@@ -56,7 +56,11 @@ struct Invigilator {
 
 impl Invigilator {
     fn start(folder: &Folder) -> Self {
-        let mut program = folder.screens(&["invigilator", "--listen", "127.0.0.1:0"]);
+        Self::start_with(folder, &[])
+    }
+
+    fn start_with(folder: &Folder, more: &[&str]) -> Self {
+        let mut program = folder.screens(&[&["invigilator", "--listen", "127.0.0.1:0"], more].concat());
         let told = BufReader::new(program.stdout.take().unwrap());
         let mut invigilator = Self { program, told, address: String::new() };
         invigilator.address = format!("127.0.0.1:{}", number_after(&invigilator.line(), "127.0.0.1:"));
@@ -173,6 +177,30 @@ fn a_hundred_thousand_keys_over_a_bad_line() {
     assert!(report.contains("invigilator: kept sitting 1, call 1 of 1 heard of"), "it was never shown, but it can be looked at: {report}");
     assert!(!rest.contains("follows sitting"), "{report}");
     assert!(time < AT_MOST, "{time:?}");
+}
+
+/// Lines with so many ignored bytes between them that one page needs several calls; and some of many rows.
+fn text_of_many_pages() -> Vec<u8> {
+    let line = |n: usize| [format!("{n} ").into_bytes(), vec![b'A' + (n % 26) as u8; n * 7 % 300], vec![7; n % 3 * 12_000], b"\r\n".into()];
+    (0..60).flat_map(|n| line(n).concat()).collect()
+}
+
+#[test]
+fn a_text_that_both_ends_print_a_screen_at_a_time() {
+    let keys = format!("TYPED{}{}<Esc>AFTER IT<Print>x<Esc><Enter>", "<Print>".repeat(9), "x<F1>".repeat(3));
+    let folder = Folder::with_keys("printed", &keys);
+    let file = folder.0.join("text");
+    fs::write(&file, text_of_many_pages()).unwrap();
+    let print = ["--print", file.to_str().unwrap()];
+    for width in ["40", "80"] {
+        let invigilator = Invigilator::start_with(&folder, &print);
+        let words = ["candidate", "--to", &invigilator.address, "--width", width, "--seed", "7", "--loss", "20", "--reorder", "50"];
+        let candidate = folder.screens(&[&words[..], &print].concat()).wait_with_output().unwrap();
+        let (held, rest) = invigilator.end();
+        assert!(candidate.status.success() && held && rest.contains("wrong arrivals 0"), "{rest}");
+        let (calls, pressed) = (number_after(&rest, "ended at call"), keys::read(&keys).unwrap().len() as u64);
+        assert!(calls > pressed, "some pages need several calls: {rest}");
+    }
 }
 
 #[test]

@@ -6,6 +6,7 @@ mod folder;
 mod halves;
 mod pane;
 mod people;
+mod printing;
 mod scene;
 mod sizes;
 mod two_terminals;

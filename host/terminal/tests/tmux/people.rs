@@ -130,7 +130,7 @@ fn continuation_insert_and_cursor_are_shown_at_both_ends() {
     }
 }
 
-const CANDIDATE_KEYS: [&str; 8] = ["Enter", "Ins", "! Esc", "! Ctrl-W", "! Ctrl-Home", "! Ctrl-End", "F1 to F10", "! Ctrl-Q"];
+const CANDIDATE_KEYS: [&str; 9] = ["Enter", "Ins", "! Esc", "! Ctrl-W", "! Ctrl-Home", "! Ctrl-End", "F1 to F10", "! Ctrl-F", "! Ctrl-Q"];
 
 #[test]
 fn a_page_of_keys_at_both_ends_and_in_the_demo() {

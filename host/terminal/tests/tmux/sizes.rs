@@ -12,16 +12,16 @@ pub const USUAL: (usize, usize) = SIZES[0];
 pub const GOOD_LINE: &str = "--loss 0 --repeat 0 --reorder 0 --seed 1";
 
 /// A program in a terminal, and the screen that it should show.
-struct Watched<'a> {
-    pane: &'a Pane,
+pub struct Watched<'a> {
+    pub pane: &'a Pane,
     /// The column in which it begins.
-    left: usize,
+    pub left: usize,
 }
 
 /// The rows of a screen that are in sight, and how many are not.
-struct Seen {
-    above: usize,
-    rows: Vec<String>,
+pub struct Seen {
+    pub above: usize,
+    pub rows: Vec<String>,
     below: usize,
 }
 
@@ -50,7 +50,7 @@ impl Watched<'_> {
     }
 
     /// The same, and the terminal's cursor at the screen's.
-    fn wait_for_all_of(&self, screen: &Screen) -> Seen {
+    pub fn wait_for_all_of(&self, screen: &Screen) -> Seen {
         let (row, col) = screen.cursor();
         let at = |seen: &Seen| Some((1 + row as usize - seen.above, self.left + col as usize));
         let right = |shown: &Shown| self.right(shown, screen).filter(|seen| self.pane.cursor() == at(seen));
@@ -64,18 +64,18 @@ fn row_of(screen: &Screen, row: u32) -> String {
 }
 
 /// A person at a terminal: each key is pressed there, and at a desk of the test's own.
-struct Person<'a> {
-    pane: &'a Pane,
-    desk: Desk,
+pub struct Person<'a> {
+    pub pane: &'a Pane,
+    pub desk: Desk,
 }
 
 impl Person<'_> {
-    fn types(&mut self, text: &str) {
+    pub fn types(&mut self, text: &str) {
         self.pane.write(text);
         text.chars().for_each(|c| drop(self.desk.press(Key::Char(glyphs::byte(c).unwrap())).unwrap()));
     }
 
-    fn presses(&mut self, name: &str, key: Key) {
+    pub fn presses(&mut self, name: &str, key: Key) {
         self.pane.press(name);
         self.desk.press(key).unwrap();
     }

@@ -1,7 +1,7 @@
 -- `editor::print::print_byte` meets its contract. Assumes nothing.
 use borrow.Author.Needs.{needs}
 use Rattle.editor.specs.Print.{printByte}
-use Rattle.editor.proofs.PrintLaws.{leaves-then, leaves-else, left-still, byte-put, byte-ignored}
+use Rattle.editor.proofs.PrintLaws.{goes-then, goes-else, goes-still, byte-put, byte-ignored}
 use Rattle.bytes.proofs.Bools.{choice}
 use Rattle.editor.proofs.print.print_byte.Statement.{statement}
 use Rattle.editor.proofs.print.print_byte.Tie as tie
@@ -14,11 +14,11 @@ same-length c = search needs
 
 returns : tie.Need-returns
 unfolding printByte
-returns c = search (needs, leaves-then, choice)
+returns c = search (needs, goes-then, choice)
 
 returns-2 : tie.Need-returns-2
 unfolding printByte
-returns-2 c = search (needs, leaves-then, leaves-else, left-still, choice)
+returns-2 c = search (needs, goes-then, goes-else, goes-still, choice)
 
 newline-requires-2 : tie.Need-newline-requires-2
 newline-requires-2 c κs = search needs
@@ -28,7 +28,7 @@ same-length-2 c = search needs
 
 returns-3 : tie.Need-returns-3
 unfolding printByte
-returns-3 c = search (needs, leaves-then, leaves-else, choice)
+returns-3 c = search (needs, goes-then, goes-else, choice)
 
 is-printable-requires : tie.Need-is-printable-requires
 is-printable-requires c κs = search needs
