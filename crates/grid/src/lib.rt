@@ -5,6 +5,7 @@
 // or bit that it names and no other byte; one that reads answers what stands there. Each ends and never traps.
 //
 // Only this crate speaks of a record's bytes: each contract of a public function is about `head_of`, `row_of`, `rows_of` and `state_bytes`.
+#![tactic(auto)]
 pub mod fresh;
 pub mod head;
 pub mod layout;

@@ -5,6 +5,7 @@
 // `editor/specs/Text`.
 //
 // A function here that does a call's work gets a valid record and hands the new head back: it leaves the front to its caller.
+#![tactic(auto)]
 pub mod modes;
 pub mod motion;
 pub mod text;

@@ -54,24 +54,24 @@ or_right true b e = refl
 or_right false b e = e
 
 -- THE LAW of a choice: what both answers have, each under its test, the choice has
-pub cases {ℓ ℓ'} : {A : Type ℓ} (P : A → Type ℓ') (b : Bool) (x y : A) → (b ≡ true → P x) → (b ≡ false → P y) → P (if b then x else y)
+pub cases : {A : Type 0} (P : A → Type 0) (b : Bool) (x y : A) → (b ≡ true → P x) → (b ≡ false → P y) → P (if b then x else y)
 cases P true x y f g = f refl
 cases P false x y f g = g refl
 
-pub either {ℓ ℓ'} : {A : Type ℓ} (P : A → Type ℓ') (b : Bool) (x y : A) → P x → P y → P (if b then x else y)
+pub either : {A : Type 0} (P : A → Type 0) (b : Bool) (x y : A) → P x → P y → P (if b then x else y)
 either P b x y f g = cases P b x y (λ e. f) (λ e. g)
 
-pub pick {ℓ} : {A : Type ℓ} (b : Bool) (x y : A) → b ≡ true → (if b then x else y) ≡ x
+pub pick : {A : Type 0} (b : Bool) (x y : A) → b ≡ true → (if b then x else y) ≡ x
 pick b x y e = rw e
 
-pub skip {ℓ} : {A : Type ℓ} (b : Bool) (x y : A) → b ≡ false → (if b then x else y) ≡ y
+pub skip : {A : Type 0} (b : Bool) (x y : A) → b ≡ false → (if b then x else y) ≡ y
 skip b x y e = rw e
 
 -- what the code answers is the choice that the definition makes: `search (needs, choice)`, with the definition on the `unfolding` line
-pub picked {ℓ} : {A : Type ℓ} (b : Bool) (x y z : A) → b ≡ true → x ≡ y → x ≡ (if b then y else z)
+pub picked : {A : Type 0} (b : Bool) (x y z : A) → b ≡ true → x ≡ y → x ≡ (if b then y else z)
 picked b x y z e h = h ∙ sym (pick b y z e)
 
-pub skipped {ℓ} : {A : Type ℓ} (b : Bool) (x y z : A) → b ≡ false → x ≡ z → x ≡ (if b then y else z)
+pub skipped : {A : Type 0} (b : Bool) (x y z : A) → b ≡ false → x ≡ z → x ≡ (if b then y else z)
 skipped b x y z e h = h ∙ sym (skip b y z e)
 
 pub ruleset choice = (picked, skipped, lt-ltb, le-ltb, le-leb, lt-leb, eq-eqb, ne_eqb)

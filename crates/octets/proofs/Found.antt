@@ -168,6 +168,7 @@ ordered_right p [] ys o = ordered_zero p ys o
 ordered_right p ((k, b) ∷ xs) ys o = ordered_right (place_in order k) xs ys (ordered_rest p k b (xs ++ ys) o)
 
 fails_from : (p : ℕ) (ts : List (ℕ × Bool)) {j : ℕ} → ordered p ts ≡ true → Fails ts j → From p j
+fails_from p [] {j = j} o x = elim x [ ]
 fails_from p ((k, b) ∷ ts) o (here e) = ordered_here p k b ts o
 fails_from p ((k, b) ∷ ts) o (there f) =
     let h = ordered_here p k b ts o in
@@ -176,6 +177,7 @@ fails_from p ((k, b) ∷ ts) o (there f) =
 
 first_within : (p : ℕ) (ts : List (ℕ × Bool)) {j : ℕ} → ordered p ts ≡ true → Fails ts j → Within j (first_of ts)
 unfolding first_of
+first_within p [] {j = j} o x = elim x [ ]
 first_within p ((k, false) ∷ ts) o (here e) = let h = ordered_here p k false ts o in record { some = placed k h.place; place = h.place; to = omega arith }
 first_within p ((k, true) ∷ ts) o (here e) = absurd (true≢false e)
 first_within p ((k, false) ∷ ts) o (there f) =

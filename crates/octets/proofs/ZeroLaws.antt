@@ -8,7 +8,6 @@ use mathlib.Core.List.{List}
 use native.Mathlib.Omega.{arith}
 use lib.Dec.{eqb}
 use lib.ListN.{length, get_or}
-use mathlib.Core.Bool
 use Rattle.octets.specs.Test.{every}
 use Rattle.octets.specs.Part.{window}
 use Rattle.octets.proofs.Bools.{every_at, at_every, every_snoc, count_turn}

@@ -2,6 +2,8 @@
 // compared, the two widths, and the number of a refusal.
 //
 // Promised: a function that writes changes the part that it names and no other byte; one that reads answers what stands there. Each ends and never traps.
+#![tactic(auto)]
+
 pub mod answer;
 pub mod compare;
 pub mod number;

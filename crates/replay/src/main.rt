@@ -1,5 +1,6 @@
 // Does the calls of the recording (docs/RECORDING.md) again, an entry at a time, and counts those that answered, submitted
 // or left something else than was recorded. Proved is that it is safe and ends; what it finds is held to the file `stdout`.
+#![tactic(auto)]
 mod again;
 mod entry;
 
