@@ -2,6 +2,7 @@
 //
 // Promised: none has a `requires`, and the contract of each says, for every lent slice and all numbers, the number answered and every byte left.
 #![tactic(auto)]
+
 pub mod changing;
 pub mod reports;
 pub mod screen;

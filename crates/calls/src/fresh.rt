@@ -2,8 +2,8 @@
 ghost use Rattle.editor.specs.Outcome.{creating};
 ghost use Rattle.octets.specs.Answer.{Writes};
 
-use octets::answer::REFUSED;
 use grid::layout::SIZE;
+use octets::answer::REFUSED;
 
 // Takes any width and any sitting, and does not read the old bytes.
 pub fn new_screen(rec: &mut [u8], width: u32, sitting: u32) -> u32

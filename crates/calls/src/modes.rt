@@ -5,10 +5,10 @@ ghost use Rattle.calls.specs.Answers.{Answers};
 
 use crate::finish::{finish, finish_move};
 use crate::refusal::change_refused;
-use octets::width::width_ok;
 use grid::refusal::range_refused;
 use grid::row;
 use moves::modes;
+use octets::width::width_ok;
 
 pub fn clear(rec: &mut [u8]) -> u32
     ensures { Answers (changing Clear rec.old) result rec.new }

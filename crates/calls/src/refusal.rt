@@ -5,10 +5,10 @@ ghost use Rattle.grid.specs.Layout.{SIZE};
 ghost use Rattle.editor.specs.Call.{limited_ok};
 ghost use Rattle.calls.specs.Parts.{late_answer, change_answer, split_answer};
 
-use octets::answer::REFUSED;
 use editor::print;
 use grid::refusal::{range_refused, record_refused};
 use line::text::MAX_LOGICAL;
+use octets::answer::REFUSED;
 
 const LAST_SERIAL: u32 = 4294967295;
 

@@ -7,6 +7,7 @@
 // A function here that does a call's work gets a valid record and hands the new head back: it writes rows, and leaves the front to its caller. One that
 // reads what it overwrites gets a copy `old` of the record too. Only `tab` writes a front, after each space that it types, with the record's own stamp.
 #![tactic(auto)]
+
 pub mod lines;
 pub mod print;
 pub mod tab;

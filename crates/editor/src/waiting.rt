@@ -7,9 +7,9 @@ ghost use Rattle.editor.specs.Print.{newline, print_byte};
 ghost use Rattle.editor.specs.Given.{NextScrolls, Reaches, Waits};
 
 use crate::print::{print_piece, wrapped};
-use octets::compare::smaller;
 use grid::head::Head;
 use grid::{head, valid};
+use octets::compare::smaller;
 
 // How many rows the step to the next row scrolls, none or one: it looks at the head alone.
 fn next_row_scrolls(h: Head) -> usize

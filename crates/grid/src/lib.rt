@@ -6,6 +6,7 @@
 //
 // Only this crate speaks of a record's bytes: each contract of a public function is about `head_of`, `row_of`, `rows_of` and `state_bytes`.
 #![tactic(auto)]
+
 pub mod fresh;
 pub mod head;
 pub mod layout;

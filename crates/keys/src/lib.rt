@@ -2,6 +2,7 @@
 //
 // Promised: for every lent table and output and all numbers, the number answered and every byte left are those of `stripping` (`specs/Keys`).
 #![tactic(auto)]
+
 pub mod call;
 pub mod strip;
 pub mod table;

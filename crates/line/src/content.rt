@@ -8,9 +8,9 @@ ghost use Rattle.line.specs.Text.{Holds, column_on};
 use crate::chars::joined_rows;
 use crate::span::Span;
 use crate::text::{MAX_LOGICAL, Text};
-use octets::compare::{larger, smaller};
 use grid::head::Head;
 use grid::row;
+use octets::compare::{larger, smaller};
 
 // The cursor's column where it is on the line's last row, else 0.
 fn column_on(row: usize, end: usize, col: usize) -> usize

@@ -6,6 +6,7 @@
 // A function that reads gets a record `rec` and its head `h`. One that writes gets a copy `old` of the record too: it reads `old`, writes rows of
 // `rec`, and hands the new head back.
 #![tactic(auto)]
+
 mod chars;
 pub mod content;
 pub mod head;

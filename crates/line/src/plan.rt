@@ -8,8 +8,8 @@ ghost use Rattle.line.specs.Splice.{line_rows};
 ghost use Rattle.line.specs.Plan.{plan_of, Laid, ChangedTo, line_flag, planned_row, planned_rows};
 
 use crate::span::Span;
-use octets::compare::{minus, smaller};
 use grid::row;
+use octets::compare::{minus, smaller};
 use values::attr::Attr;
 
 // Row r of the new screen is: before top, the old row r + over; then one of the line's rows; then the old rows from next on; then blank.

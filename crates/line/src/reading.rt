@@ -9,10 +9,10 @@ ghost use Rattle.line.specs.Text.{Reads};
 
 use crate::chars::joined_rows;
 use crate::text::MAX_LOGICAL;
-use octets::compare::smaller;
-use octets::part;
 use grid::head::Head;
 use grid::row;
+use octets::compare::smaller;
+use octets::part;
 
 #[derive(Drop)]
 pub struct Reading {

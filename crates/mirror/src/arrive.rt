@@ -14,10 +14,10 @@ ghost use Rattle.mirror.specs.Parts.{Room, Placed, PlacedIf, Ready};
 
 use crate::layout::{MIRROR_SIZE, NEWEST, RECORD};
 use crate::{mirror, order};
-use octets::answer::REFUSED;
 use grid::layout::{SCREEN_ROWS, STRIDE};
 use grid::pair::Pair;
 use grid::{head, pair, row};
+use octets::answer::REFUSED;
 use report::check::report_ok;
 use report::front::read_front;
 use report::kind::{Kind, rows_at};

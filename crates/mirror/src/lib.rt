@@ -3,6 +3,7 @@
 // Promised: the exported functions ask nothing of their caller. Each contract says, for every lent slice, the number answered and every byte left; and of
 // the definitions that say so it is proved that a mirror shows the screen of the sitting and serial that it names (`specs/Demand3`).
 #![tactic(auto)]
+
 pub mod arrive;
 pub mod layout;
 pub mod mirror;

@@ -6,9 +6,9 @@ ghost use Rattle.mirror.specs.Mirror.{mirror_front, mirror_frontb, shownb, mirro
 
 use crate::layout::{MIRROR_SIZE, MIRROR_VERSION, NEWEST, RECORD};
 use crate::order;
-use octets::answer::REFUSED;
 use grid::pair::Pair;
 use grid::{head, pair};
+use octets::answer::REFUSED;
 
 fn front_ok(mir: &[u8]) -> bool
     requires { length mir.now ≡ MIRROR-SIZE }

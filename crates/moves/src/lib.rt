@@ -6,6 +6,7 @@
 //
 // A function here that does a call's work gets a valid record and hands the new head back: it leaves the front to its caller.
 #![tactic(auto)]
+
 pub mod modes;
 pub mod motion;
 pub mod text;

@@ -3,5 +3,6 @@
 //
 // Promised: no function here asks anything of its caller. Each contract says, for every lent slice, the number answered and every byte left.
 #![tactic(auto)]
+
 pub mod reading;
 pub mod text;

@@ -5,10 +5,10 @@ ghost use Rattle.grid.specs.Facts.{Valid};
 ghost use Rattle.queries.specs.Parts.{WidthIs, cell_of};
 ghost use Rattle.editor.specs.Outcome.{asking, AskWidth, AskCursor, AskAttr, AskEditableRows, AskCell, AskContinues};
 
-use octets::answer::REFUSED;
-use octets::number::wide;
 use grid::refusal::record_refused;
 use grid::{head, row};
+use octets::answer::REFUSED;
+use octets::number::wide;
 
 fn width_of(rec: &[u8]) -> u32
     requires { Valid rec.now }

@@ -3,8 +3,8 @@ ghost use Rattle.std.specs.Prelude.{◌≡◌, length};
 ghost use Rattle.replay.specs.Entry.{HEAD};
 
 use crate::entry;
-use octets::number::four_at;
 use calls::{fresh, lines, modes, motion, print, tab, typing, words};
+use octets::number::four_at;
 
 // What no call answers: there is none with this tag.
 pub const NO_CALL: u32 = 4294967295;

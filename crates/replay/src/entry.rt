@@ -3,8 +3,8 @@ ghost use Rattle.std.specs.Prelude.{◌<◌, ◌≤◌, ◌≡◌, length};
 ghost use Rattle.line.specs.Line.{MAX-LOGICAL};
 ghost use Rattle.replay.specs.Entry.{HEAD, MODULUS};
 
-use octets::number::{two_at, wide};
 use line::text::MAX_LOGICAL;
+use octets::number::{two_at, wide};
 
 // Where the fields of a head stand, and its length.
 pub const TAG: usize = 0;

@@ -1,17 +1,18 @@
 // Does the calls of the recording (docs/RECORDING.md) again, an entry at a time, and counts those that answered, submitted
 // or left something else than was recorded. Proved is that it is safe and ends; what it finds is held to the file `stdout`.
 #![tactic(auto)]
+
 mod again;
 mod entry;
 
 ghost use Rattle.std.specs.Prelude.{◌≤◌, ◌≡◌, length};
 ghost use Rattle.replay.specs.Entry.{HEAD, LONGEST-INPUT, LONGEST-BODY};
 
-use octets::number::four_at;
 use entry::{HEAD, LONGEST_BODY, LONGEST_INPUT};
 use grid::layout::SIZE;
 use libc::STDOUT_FILENO;
 use line::text::MAX_LOGICAL;
+use octets::number::four_at;
 
 // More than any file has: by it the loop over the entries ends.
 const MOST_CALLS: u64 = 1000000000;

@@ -10,10 +10,10 @@ ghost use Rattle.report.specs.Report.{read_front, row_in, carried_rows, frontb, 
 use crate::front::{Front, read_front, report_length};
 use crate::kind;
 use crate::layout::{KIND, REPORT_VERSION, ROW_SIZE, ROWS};
-use octets::number::two_at;
-use octets::zero;
 use grid::layout::STRIDE;
 use grid::valid;
+use octets::number::two_at;
+use octets::zero;
 
 // Is the front f of the slice as the layout asks?
 fn front_ok(b: &[u8], f: Front) -> bool

@@ -9,10 +9,10 @@ ghost use Rattle.report.specs.Parts.{Fronts};
 use crate::kind;
 use crate::kind::Kind;
 use crate::layout::{HEAD, KIND, MASK, REPORT_PAIR, REPORT_VERSION, ROW_SIZE};
-use octets::number;
 use grid::head::Head;
 use grid::pair::Pair;
 use grid::{head, pair};
+use octets::number;
 
 #[derive(Drop)]
 pub struct Front {

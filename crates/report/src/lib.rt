@@ -3,6 +3,7 @@
 // Promised: a report call asks nothing of its caller, and its contract says, for every lent slice, the number answered and every byte left; the test
 // answers, on a slice of any length, exactly the documents' conditions.
 #![tactic(auto)]
+
 pub mod check;
 pub mod front;
 pub mod kind;

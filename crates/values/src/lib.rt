@@ -3,6 +3,7 @@
 // Promised: an attribute's nibbles are those of its byte; a move of the cursor is document 01's, by value and through a lent cursor; a row's bit in a
 // mask is that bit and no other.
 #![tactic(auto)]
+
 pub mod attr;
 pub mod cursor;
 pub mod lent;
