@@ -2,4 +2,3 @@
 pub mod AttrLaws
 pub mod CursorLaws
 pub mod MaskLaws
-pub mod LentLaws
