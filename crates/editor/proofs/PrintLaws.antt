@@ -115,13 +115,13 @@ module _ (l : List ℕ) (h : Head) (facts : HeadFacts h) where
 
   pub wraps_row : h.cursor.row ≡ 0 → false ≡ wraps l h
   unfolding wrapped
-  wraps_row e = simp (le-ltb 0 h.cursor.row (omega arith), Bool.and_false)
+  wraps_row e = simp (le-ltb 0 h.cursor.row (omega arith), Bool.and-false)
 
   pub wraps_flag : (f : ℕ) → f ≡ (row_of l (h.cursor.row - 1)).flag → (f ≡ 1 → ⊥) → false ≡ wraps l h
   unfolding wrapped flagged
   wraps_flag f is ne =
       let above = row_is l (h.cursor.row - 1) (omega arith) in
-      simp (above, ne_eqb (row_of l (h.cursor.row - 1)).flag 1 (λ q. ne (is ∙ q)), Bool.and_false)
+      simp (above, ne_eqb (row_of l (h.cursor.row - 1)).flag 1 (λ q. ne (is ∙ q)), Bool.and-false)
 
   pub wraps_blank : (f : ℕ) (t : Bool) → h.cursor.col ≡ 0 → (h.cursor.row ≡ 0 → ⊥) → f ≡ (row_of l (h.cursor.row - 1)).flag → f ≡ 1
       → t ≡ is_empty (trim (take h.width (row_of l h.cursor.row).chars)) → t ≡ wraps l h

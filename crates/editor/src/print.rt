@@ -15,7 +15,7 @@ use grid::{head, row, valid};
 use values::cursor::Cursor;
 
 // How far printing went: the head that it hands on, and how many rows were scrolled on the way.
-#[derive(Drop)]
+#[derive(Clone, Copy)]
 pub struct Went {
     pub head: Head,
     pub scrolls: usize,
@@ -152,7 +152,7 @@ fn print_byte(rec: &mut [u8], h: Head, cr: bool, b: u8) -> Went
 }
 
 // How far a run of bytes went: also how many of them it has.
-#[derive(Drop)]
+#[derive(Clone, Copy)]
 pub struct Run {
     pub head: Head,
     pub to: usize,

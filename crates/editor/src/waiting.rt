@@ -72,7 +72,7 @@ fn piece_end(rec: &[u8], h: Head, cr: bool, bytes: &[u8], i: usize, left: usize)
 }
 
 // What a waiting print has done: the head that it hands on, how many bytes it has taken, and how many rows they have scrolled.
-#[derive(Drop)]
+#[derive(Clone, Copy)]
 pub struct Waited {
     pub head: Head,
     pub taken: usize,

@@ -147,7 +147,7 @@ module _ (l m : List ℕ) (r : ℕ) where
   unfolding same_row row_of
   chars_differ t is n =
       let z : same (window l (CHARS + 80 * r) 80) (window m (CHARS + 80 * r) 80) ≡ false = sym is ∙ not-true t n in
-      simp (z, Bool.and_false)
+      simp (z, Bool.and-false)
 
   pub same_row_end : (f g : ℕ) (t u : Bool) → f ≡ (row_of l r).flag → g ≡ (row_of m r).flag → f ≡ g
       → t ≡ same (window l (CHARS + 80 * r) 80) (window m (CHARS + 80 * r) 80) → not t ≡ false

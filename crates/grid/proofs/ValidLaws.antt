@@ -152,23 +152,23 @@ module _ (h : Head) where
 
   pub insert_bad : 1 < h.insert → valid_head h ≡ false
   unfolding valid_head
-  insert_bad k = simp (lt-leb h.insert 1 k, Bool.and_false)
+  insert_bad k = simp (lt-leb h.insert 1 k, Bool.and-false)
 
   pub cr_bad : 1 < h.cr → valid_head h ≡ false
   unfolding valid_head
-  cr_bad k = simp (lt-leb h.cr 1 k, Bool.and_false)
+  cr_bad k = simp (lt-leb h.cr 1 k, Bool.and-false)
 
   pub keys_bad : 1 < h.keys → valid_head h ≡ false
   unfolding valid_head
-  keys_bad k = simp (lt-leb h.keys 1 k, Bool.and_false)
+  keys_bad k = simp (lt-leb h.keys 1 k, Bool.and-false)
 
   pub cursor_bad : editable h.keys ≤ h.cursor.row → valid_head h ≡ false
   unfolding valid_head
-  cursor_bad k = simp (le-ltb h.cursor.row (editable h.keys) k, Bool.and_false)
+  cursor_bad k = simp (le-ltb h.cursor.row (editable h.keys) k, Bool.and-false)
 
   pub column_bad : h.width ≤ h.cursor.col → valid_head h ≡ false
   unfolding valid_head
-  column_bad k = simp (le-ltb h.cursor.col h.width k, Bool.and_false)
+  column_bad k = simp (le-ltb h.cursor.col h.width k, Bool.and-false)
 
   pub head_rest : widthb h.width ≡ true → h.cursor.row < editable h.keys → h.cursor.col < h.width → h.insert ≤ 1 → h.cr ≤ 1
       → h.keys ≤ 1 → valid_head h ≡ valid_attr h.attr
@@ -185,11 +185,11 @@ module _ (l : List ℕ) where
 
   pub front_bad : frontb l ≡ false → validb l ≡ false
   unfolding validb
-  front_bad e = simp (e, Bool.and_false)
+  front_bad e = simp (e, Bool.and-false)
 
   pub head_bad : valid_head (head_of l) ≡ false → validb l ≡ false
   unfolding validb valid_screen
-  head_bad e = simp (e, Bool.and_false)
+  head_bad e = simp (e, Bool.and-false)
 
   pub row_bad : (r : ℕ) → r < 25 → valid_row (head_of l).width (row_of l r) ≡ false → validb l ≡ false
   unfolding validb valid_screen
@@ -197,7 +197,7 @@ module _ (l : List ℕ) where
       let n : every (valid_row (head_of l).width) (rows_of l) ≡ false =
       every_not (valid_row (head_of l).width) (rows_of l) r (row_of l r) (omega (arith, length_rows l))
       (ap (valid_row (head_of l).width) (get_d_rows l r (row_of l r) h) ∙ e) in
-      simp (n, Bool.and_false)
+      simp (n, Bool.and-false)
 
   pub all_good : length l ≡ SIZE → frontb l ≡ true → valid_head (head_of l) ≡ true → every (valid_row (head_of l).width) (rows_of l) ≡ true → validb l ≡ true
   unfolding validb valid_screen
@@ -308,11 +308,11 @@ module _ (l : List ℕ) where
 
   pub front_1 : (get_or l 1 0 ≡ SIZE % 256 → ⊥) → false ≡ frontb l
   unfolding frontb
-  front_1 h = simp (ne_eqb (get_or l 1 0) (SIZE % 256) h, Bool.and_false)
+  front_1 h = simp (ne_eqb (get_or l 1 0) (SIZE % 256) h, Bool.and-false)
 
   pub front_2 : (get_or l 2 0 ≡ VERSION → ⊥) → false ≡ frontb l
   unfolding frontb
-  front_2 h = simp (ne_eqb (get_or l 2 0) VERSION h, Bool.and_false)
+  front_2 h = simp (ne_eqb (get_or l 2 0) VERSION h, Bool.and-false)
 
   pub front_end : (n : ℕ) → get_or l 0 0 ≡ SIZE / 256 → get_or l 1 0 ≡ SIZE % 256 → get_or l 2 0 ≡ VERSION → n ≡ touched_of l → ltb n MASKS ≡ frontb l
   unfolding frontb

@@ -13,7 +13,7 @@ use octets::number;
 use values::attr::Attr;
 use values::cursor::Cursor;
 
-#[derive(Drop)]
+#[derive(Clone, Copy)]
 pub struct Head {
     pub width: usize,
     pub cursor: Cursor,
@@ -25,7 +25,7 @@ pub struct Head {
 }
 
 // What a call leaves beside the screen: the record's sitting and serial, and the rows that the call touched.
-#[derive(Drop)]
+#[derive(Clone, Copy)]
 pub struct Stamp {
     pub pair: Pair,
     pub touched: u32,

@@ -6,7 +6,7 @@ ghost use Rattle.grid.specs.Pair.{pair_at, pair_bytes};
 use octets::number;
 
 // In the order of its bytes.
-#[derive(Drop)]
+#[derive(Clone, Copy)]
 pub struct Pair {
     pub serial: u32,
     pub sitting: u32,

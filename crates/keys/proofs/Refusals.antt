@@ -116,6 +116,7 @@ module _ (t : List ℕ) (offset width : ℕ) (out : List ℕ) where
       let bad = table_fails t (eqb-true _ _ (and_left (eqb (length t) TABLE_SIZE) (fits width (length out)) p)) e in
       layout bad.0 bad.1 bad.2
   sound k (later p (later q (now e))) = range_fails e
+  sound k (later p (later q (later _ f))) = elim f [ ]
 
   whole : (k : ℕ) → StripRefused t offset width out k → Fails (strip_tests t offset width out) k
   unfolding strip_tests

@@ -118,7 +118,7 @@ module _ (t : List ℕ) where
   key_found k b h is n =
       let bad : every (valid_key t) ten_keys ≡ false =
       every_not (valid_key t) ten_keys k 0 (omega (arith, length_ten)) (ap (valid_key t) (ten_at k h) ∙ sym is ∙ not-true b n) in
-      simp (bad, Bool.and_false)
+      simp (bad, Bool.and-false)
 
   pub keys_start : every (valid_key t) (take 0 ten_keys) ≡ true
   unfolding every

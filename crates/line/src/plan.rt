@@ -14,7 +14,7 @@ use values::attr::Attr;
 
 // Row r of the new screen is: before top, the old row r + over; then one of the line's rows; then the old rows from next on; then blank.
 // Rows from `rows` on stay as they are.
-#[derive(Drop)]
+#[derive(Clone, Copy)]
 pub struct Plan {
     pub top: usize,
     pub over: usize,

@@ -14,7 +14,7 @@ use grid::row;
 use octets::compare::smaller;
 use octets::part;
 
-#[derive(Drop)]
+#[derive(Clone, Copy)]
 pub struct Reading {
     pub bytes: [u8; MAX_LOGICAL],
     pub len: usize,

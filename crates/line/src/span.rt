@@ -10,7 +10,7 @@ use grid::head::Head;
 use grid::{head, row};
 
 // The first and the last row of a line.
-#[derive(Drop)]
+#[derive(Clone, Copy)]
 pub struct Span {
     pub start: usize,
     pub end: usize,

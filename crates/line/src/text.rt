@@ -6,7 +6,7 @@ ghost use Rattle.line.specs.Text.{Sound, Holds, text_of};
 // The most characters of a logical line.
 pub const MAX_LOGICAL: usize = 255;
 
-#[derive(Drop)]
+#[derive(Clone, Copy)]
 pub struct Text {
     pub bytes: [u8; MAX_LOGICAL],
     pub len: usize,

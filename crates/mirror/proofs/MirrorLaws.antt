@@ -46,7 +46,7 @@ module _ (l : List ℕ) where
 
   pub low_wrong : (get_or l 1 0 ≡ MIRROR-SIZE % 256 → ⊥) → false ≡ mirror_frontb l
   unfolding mirror_frontb
-  low_wrong ne = simp (ne_eqb (get_or l 1 0) (MIRROR-SIZE % 256) ne, Bool.and_false)
+  low_wrong ne = simp (ne_eqb (get_or l 1 0) (MIRROR-SIZE % 256) ne, Bool.and-false)
 
   pub version_tested : get_or l 0 0 ≡ MIRROR-SIZE / 256 → get_or l 1 0 ≡ MIRROR-SIZE % 256 → eqb (get_or l 2 0) MIRROR-VERSION ≡ mirror_frontb l
   unfolding mirror_frontb
@@ -62,7 +62,7 @@ module _ (l : List ℕ) where
   unfolding shownb
   touched_wrong m is ne =
       let e = ne_eqb (touched_of (drop RECORD l)) 0 (λ q. ne (is ∙ ap touched_of (part_is l RECORD) ∙ q)) in
-      simp (e, Bool.and_false)
+      simp (e, Bool.and-false)
 
   pub shown_tested : (t u : Bool) (m : ℕ) (p q : Pair) → t ≡ validb (take (length l - RECORD) (drop RECORD l)) → not t ≡ false
       → m ≡ touched_of (take (length l - RECORD) (drop RECORD l)) → m ≡ 0 → p ≡ pair_of (take (length l - RECORD) (drop RECORD l)) → q ≡ pair_at l NEWEST

@@ -25,7 +25,7 @@ use report::layout::{ALL_ROWS, REPORT_PAIR, ROW_SIZE};
 use values::mask;
 
 // What becomes of an arriving report.
-#[derive(Drop)]
+#[derive(Clone, Copy)]
 pub enum Arrived {
     Refused(u32),
     // Old, early or of another sitting: only the newest pair can change.

@@ -38,13 +38,13 @@ module _ (b : List ℕ) (f : Front) (ef : f ≡ read_front b) where
   length_wrong n en ne = sym (front_is ∙ rw (ne_eqb (length b) (report_length f.kind f.mask) (λ q. ne (q ∙ sym en))))
 
   pub field_wrong : (x : ℕ) → x ≡ number2 (get_or b 0 0) (get_or b 1 0) → (x ≡ length b → ⊥) → false ≡ frontb b
-  field_wrong x ex ne = sym (front_is ∙ simp (ne_eqb (number2 (get_or b 0 0) (get_or b 1 0)) (length b) (λ q. ne (ex ∙ q)), Bool.and_false))
+  field_wrong x ex ne = sym (front_is ∙ simp (ne_eqb (number2 (get_or b 0 0) (get_or b 1 0)) (length b) (λ q. ne (ex ∙ q)), Bool.and-false))
 
   pub version_wrong : (get_or b 2 0 ≡ REPORT-VERSION → ⊥) → false ≡ frontb b
-  version_wrong ne = sym (front_is ∙ simp (ne_eqb (get_or b 2 0) REPORT-VERSION ne, Bool.and_false))
+  version_wrong ne = sym (front_is ∙ simp (ne_eqb (get_or b 2 0) REPORT-VERSION ne, Bool.and-false))
 
   pub kind_wrong : (k : ℕ) → k ≡ kind_byte f.kind → (get_or b KIND 0 ≡ k → ⊥) → false ≡ frontb b
-  kind_wrong k ek ne = sym (front_is ∙ simp (ne_eqb (get_or b KIND 0) (kind_byte f.kind) (λ q. ne (q ∙ sym ek)), Bool.and_false))
+  kind_wrong k ek ne = sym (front_is ∙ simp (ne_eqb (get_or b KIND 0) (kind_byte f.kind) (λ q. ne (q ∙ sym ek)), Bool.and-false))
 
   pub front_tested : (n x k : ℕ) (v : Bool) → n ≡ report_length f.kind f.mask → length b ≡ n → x ≡ number2 (get_or b 0 0) (get_or b 1 0) → x ≡ length b
       → get_or b 2 0 ≡ REPORT-VERSION → k ≡ kind_byte f.kind → get_or b KIND 0 ≡ k → v ≡ mask_fits f.kind f.mask → v ≡ frontb b
@@ -87,12 +87,12 @@ module _ (b : List ℕ) (a w : ℕ) (len : a + ROW-SIZE ≤ length b) (wide : w 
   pub chars_wrong : (t : Bool) → t ≡ every printable (window b (a + 1) w) → not t ≡ true → false ≡ valid_row w (row_in b a)
   chars_wrong t is n =
       let e : every printable (window b (a + 1) w) ≡ false = sym is ∙ not-true t n in
-      sym (row_test ∙ simp (e, Bool.and_false))
+      sym (row_test ∙ simp (e, Bool.and-false))
 
   pub beyond_wrong : (t : Bool) → t ≡ every zerob (window b (a + 1 + w) (80 - w)) → not t ≡ true → false ≡ valid_row w (row_in b a)
   beyond_wrong t is n =
       let e : every zerob (window b (a + 1 + w) (80 - w)) ≡ false = sym is ∙ not-true t n in
-      sym (row_test ∙ simp (e, Bool.and_false))
+      sym (row_test ∙ simp (e, Bool.and-false))
 
   pub row_tested : (t u v : Bool) → get_or b a 0 ≤ 1 → t ≡ every printable (window b (a + 1) w) → not t ≡ false
       → u ≡ every zerob (window b (a + 1 + w) (80 - w)) → not u ≡ false → v ≡ every zerob (window b (a + 1 + 80 + w) (80 - w))
@@ -185,7 +185,7 @@ module _ (b : List ℕ) where
     report_is = rw ef
 
     pub head_refuted : (t : Bool) → t ≡ valid_head f.head → not t ≡ true → false ≡ reportb b
-    head_refuted t is n = sym (report_is ∙ simp (sym is ∙ not-true t n, Bool.and_false))
+    head_refuted t is n = sym (report_is ∙ simp (sym is ∙ not-true t n, Bool.and-false))
 
     module _ (t : Bool) (it : t ≡ frontb b) (nt : not t ≡ false) (from : ℕ) (es : from ≡ rows_at f.kind) where
       passed : frontb b ≡ true

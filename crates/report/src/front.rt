@@ -14,7 +14,7 @@ use grid::pair::Pair;
 use grid::{head, pair};
 use octets::number;
 
-#[derive(Drop)]
+#[derive(Clone, Copy)]
 pub struct Front {
     pub kind: Kind,
     pub pair: Pair,

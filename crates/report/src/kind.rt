@@ -5,7 +5,7 @@ ghost use Rattle.report.specs.Kind.{kind_of, kind_byte, mask_of, mask_fits, rows
 use crate::layout::{ALL_ROWS, FULL, ROWS, STEP};
 use grid::layout::MASKS;
 
-#[derive(Drop)]
+#[derive(Clone, Copy)]
 pub enum Kind {
     // The rows that the last call touched.
     Step,

@@ -2,7 +2,7 @@
 ghost use Rattle.std.specs.Prelude.{◌≡◌};
 ghost use Rattle.values.specs.Attr.{attr_of, byte_of};
 
-#[derive(Drop)]
+#[derive(Clone, Copy)]
 pub struct Attr {
     pub foreground: u8,
     pub background: u8,

@@ -4,7 +4,7 @@ ghost use Rattle.values.specs.Cursor.{at, left, right, up, down, clamp};
 
 use octets::compare::smaller;
 
-#[derive(Drop)]
+#[derive(Clone, Copy)]
 pub struct Cursor {
     pub row: usize,
     pub col: usize,

@@ -10,4 +10,4 @@ pub shape_of-out : goal.shape_of-out
 shape_of-out c = simp length-set (omega arith)
 
 pub returns : goal.returns
-returns c = slot_end _ _ _ _ _ _ _ _ _ c.pre.1 c.pre.2 (search rules) c.put_display.ensures c.fill.ensures c.digit.ensures
+returns c = slot_end _ _ _ _ _ _ _ _ _ c.requires.1 c.requires.2 (search rules) c.put_display.ensures c.fill.ensures c.digit.ensures

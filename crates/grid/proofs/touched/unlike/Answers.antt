@@ -1,0 +1,11 @@
+-- `grid::touched::unlike` meets its contract.
+use mathlib.Core.Path.{refl}
+use native.Mathlib.Omega.{arith}
+use borrow.Author.Tests.{eq-eqb, ne_eqb}
+use Rattle.grid.proofs.touched.unlike.Goals as goal
+
+pub returns-then-a-b : goal.returns-then-a-b
+returns-then-a-b c = rw (eq-eqb _ _ c.if-a-b.true) (refl, omega arith)
+
+pub returns-else-a-b : goal.returns-else-a-b
+returns-else-a-b c = rw (ne_eqb _ _ c.if-a-b.false) (refl, omega arith)
