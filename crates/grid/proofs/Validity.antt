@@ -6,6 +6,7 @@ use mathlib.Core.Bool.{true}
 use mathlib.Core.List.{List}
 use mathlib.Core.Logic.{◌⊎◌}
 use native.Mathlib.Omega.{arith}
+use lib.Dec.{eqb}
 use borrow.Author.Tests.{ltb-true, leb-true, eqb-true, lt-ltb, le-leb, eq-eqb}
 use Rattle.grid.specs.Screen.{Row, Screen, with_cr, editable, valid_attr, valid_head, valid_row, valid_screen}
 use Rattle.grid.specs.Record.{screen_of, frontb, validb}
@@ -18,11 +19,11 @@ use Rattle.octets.proofs.WidthLaws.{width_from, cases_width, width_to, width_cas
 
 pub editable_from : (k : ℕ) → 24 ≤ editable k
 unfolding editable
-editable_from k = either (λ (e : ℕ). 24 ≤ e) _ _ _ (omega arith) (omega arith)
+editable_from k = either (λ (e : ℕ). 24 ≤ e) (eqb k 1) _ _ (omega arith) (omega arith)
 
 pub editable_to : (k : ℕ) → editable k ≤ 25
 unfolding editable
-editable_to k = either (λ (e : ℕ). e ≤ 25) _ _ _ (omega arith) (omega arith)
+editable_to k = either (λ (e : ℕ). e ≤ 25) (eqb k 1) _ _ (omega arith) (omega arith)
 
 -- ---- the head
 
