@@ -19,7 +19,7 @@ use Rattle.octets.proofs.Bools.{and_left, and_right, cases, either, every_both, 
 use Rattle.grid.proofs.Trim.{trim_le}
 use Rattle.grid.proofs.Validity.{row_facts, row_valid}
 use Rattle.grid.proofs.Keep.{rows_take, rows_drop, rows_append, rows_cons, rows_count, rows_replicate, row-at, spaces, line-row, Edited, edited_top, blank_of}
-use Rattle.line.specs.Line.{MAX-LOGICAL, span_start, span_end, start_of, end_of, joined, row_text, whole_rows, reading, line_text, index, reach, content}
+use Rattle.line.specs.Line.{MAX-LOGICAL, flagged, span_start, span_end, start_of, end_of, joined, row_text, whole_rows, reading, line_text, index, reach, content}
 use Rattle.line.specs.Splice.{rows_for, line_rows, spliced_rows, splice}
 use Rattle.line.proofs.Kept.{Kept}
 
@@ -28,17 +28,17 @@ use Rattle.line.proofs.Kept.{Kept}
 span-start : (rows : List Row) (r : ℕ) → span_start rows r ≤ r
 unfolding span_start
 span-start rows zero = omega arith
-span-start rows (suc r) = let h = span-start rows r in either (λ (x : ℕ). x ≤ suc r) _ _ _ (omega arith) (omega arith)
+span-start rows (suc r) = let h = span-start rows r in either (λ (x : ℕ). x ≤ suc r) (flagged rows r) _ _ (omega arith) (omega arith)
 
 span_end_from : (rows : List Row) (k r : ℕ) → r ≤ span_end rows k r
 unfolding span_end
 span_end_from rows zero r = omega arith
-span_end_from rows (suc k) r = let h = span_end_from rows k (suc r) in either (λ (x : ℕ). r ≤ x) _ _ _ (omega arith) (omega arith)
+span_end_from rows (suc k) r = let h = span_end_from rows k (suc r) in either (λ (x : ℕ). r ≤ x) (flagged rows r) _ _ (omega arith) (omega arith)
 
 span_end_to : (rows : List Row) (k r : ℕ) → span_end rows k r ≤ r + k
 unfolding span_end
 span_end_to rows zero r = omega arith
-span_end_to rows (suc k) r = let h = span_end_to rows k (suc r) in either (λ (x : ℕ). x ≤ r + suc k) _ _ _ (omega arith) (omega arith)
+span_end_to rows (suc k) r = let h = span_end_to rows k (suc r) in either (λ (x : ℕ). x ≤ r + suc k) (flagged rows r) _ _ (omega arith) (omega arith)
 
 -- the span of an editable row r
 pub record SpanFacts (s : Screen) (r : ℕ) : Type 0 where
@@ -145,7 +145,7 @@ unfolding line_rows every
 line-rows zero w a cs h v = record { count = refl; valid = refl }
 line-rows (suc k) w a cs h v =
     let f : ℕ = if eqb k 0 then 0 else 1 in
-    let flag : f ≤ 1 = either (λ (x : ℕ). x ≤ 1) _ _ _ (omega arith) (omega arith) in
+    let flag : f ≤ 1 = either (λ (x : ℕ). x ≤ 1) (eqb k 0) _ _ (omega arith) (omega arith) in
     let fits : length (take w cs) ≤ w = simp length-take (omega arith) in
     rows_cons _ (row_valid w _ (line-row w (take w cs) fits h a f flag (every_take printable w cs v)))
     (line-rows k w a (drop w cs) h (every_drop printable w cs v))
