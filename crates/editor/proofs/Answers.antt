@@ -44,7 +44,7 @@ lines_fit w [] h = omega arith
 lines_fit w (x ∷ rows) h =
     let most = lines_fit w rows h in
     let here = row-text w x in
-    cases (λ (cs : List ℕ). length cs ≤ 81 * length (x ∷ rows) - 1) _ _ _ (λ e. omega arith)
+    cases (λ (cs : List ℕ). length cs ≤ 81 * length (x ∷ rows) - 1) (is_empty (join_lines (row_texts w rows))) _ _ (λ e. omega arith)
     (λ e. simp length-append (omega (arith, some_length _ e)))
 
 pub snapshot_fits : (s : Screen) → ScreenFacts s → length (snapshot s) ≤ 2024

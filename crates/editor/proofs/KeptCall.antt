@@ -25,7 +25,7 @@ use Rattle.editor.proofs.KeptMotion.{KeptModes, valid_modes, here, moved, homed,
 use Rattle.octets.specs.Refusals.{all_pass}
 use Rattle.octets.proofs.Bools.{and_left, and_right, either}
 use Rattle.grid.proofs.Validity.{with_cr_facts}
-use lib.Dec.{leb}
+use lib.Dec.{leb, eqb}
 use Rattle.octets.specs.Width.{widthb}
 
 -- a limit in range is at most that of every line
@@ -79,7 +79,7 @@ apply_facts c s r f =
 last_switch : (bs : List ℕ) (cr : ℕ) → cr ≤ 1 → last_cr cr bs ≤ 1
 unfolding last_cr
 last_switch [] cr h = h
-last_switch (b ∷ bs) cr h = last_switch bs _ (either (λ (v : ℕ). v ≤ 1) _ _ _ (omega arith) (omega arith))
+last_switch (b ∷ bs) cr h = last_switch bs _ (either (λ (v : ℕ). v ≤ 1) (eqb b 13) _ _ (omega arith) (omega arith))
 
 left_switch : (p : Printed) (cr : ℕ) → cr ≤ 1 → cr_left p cr ≤ 1
 unfolding cr_left

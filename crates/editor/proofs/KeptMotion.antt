@@ -16,7 +16,7 @@ use Rattle.grid.proofs.Validity.{head_is, editable_from}
 use Rattle.octets.proofs.WidthLaws.{width_from, width_to}
 use Rattle.values.proofs.CursorLaws.{Inside, clamp_inside}
 use Rattle.grid.proofs.Keep.{rows_replicate, blank-row, edited_top, blank_of}
-use Rattle.editor.specs.Words.{place, cell_of, back_to_word, word_start, word_left, word_right}
+use Rattle.editor.specs.Words.{place, cell_of, back_to_word, word_start, word_left, word_right, word_at}
 use Rattle.editor.specs.Motion.{end_of_line}
 use Rattle.editor.specs.Modes.{clear, set_width, set_insert, set_attr, set_keys_on}
 use Rattle.line.proofs.Kept.{Kept, valid_kept}
@@ -32,12 +32,12 @@ place_inside w e i h l = record { row = (div-lt_iff_lt-mul h).1 l; col = mod-lt 
 back-to-word : (s : Screen) (i : ℕ) → back_to_word s i ≤ i
 unfolding back_to_word
 back-to-word s zero = omega arith
-back-to-word s (suc i) = let h = back-to-word s i in either (λ (x : ℕ). x ≤ suc i) _ _ _ (omega arith) (omega arith)
+back-to-word s (suc i) = let h = back-to-word s i in either (λ (x : ℕ). x ≤ suc i) (word_at s (suc i)) _ _ (omega arith) (omega arith)
 
 word-start : (s : Screen) (i : ℕ) → word_start s i ≤ i
 unfolding word_start
 word-start s zero = omega arith
-word-start s (suc i) = let h = word-start s i in either (λ (x : ℕ). x ≤ suc i) _ _ _ (omega arith) (omega arith)
+word-start s (suc i) = let h = word-start s i in either (λ (x : ℕ). x ≤ suc i) (word_at s i) _ _ (omega arith) (omega arith)
 
 -- ---- the screen
 

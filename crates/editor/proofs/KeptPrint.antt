@@ -1,22 +1,23 @@
 -- Printing only moves the cursor and changes editable rows.
 -- Assumes nothing.
-use Prim.Native.Nat.{ℕ, ◌-◌, ◌<◌}
+use Prim.Native.Nat.{ℕ, ◌-◌, ◌<◌, ◌+◌}
 use mathlib.Core.Path.{◌≡◌}
 use mathlib.Core.Bool.{Bool, true}
 use mathlib.Core.List.{List, [], ◌∷◌}
 use native.Mathlib.Omega.{arith}
 use lib.ListN.{length-set}
 use lib.Seq.{append_snoc, take-set-lt, drop-set-lt}
-use lib.Dec.{eqb}
+use lib.Dec.{eqb, ltb}
 use borrow.Author.Tests.{ltb-true}
-use Rattle.grid.specs.Screen.{Row, Screen, with_rows, put_cell, scrolled, editable, printable}
+use Rattle.grid.specs.Screen.{Row, Screen, with_rows, move_to, set_flag, put_cell, scrolled, editable, printable}
 use Rattle.grid.specs.Facts.{RowFacts}
+use Rattle.values.specs.Cursor.{at}
 use Rattle.values.specs.declared.attr.Attr.{Attr}
 use Rattle.octets.proofs.Bools.{cases, either, every_set}
 use Rattle.grid.proofs.Validity.{row_valid}
 use Rattle.grid.proofs.Keep.{rows_take, rows_drop, rows_append, rows_count, rows_replicate, row-at, edited_set, edited_flag, edited_top, blank_of}
 use Rattle.line.proofs.Kept.{Kept}
-use Rattle.editor.specs.Print.{Advanced, scroll, next_row, newline, write_cell, put_char, print_byte, print}
+use Rattle.editor.specs.Print.{Advanced, still, scroll, next_row, newline, write_cell, put_char, print_byte, print}
 
 pub cell_row : (w c ch : ℕ) (a : Attr) (x : Row) → c < w → printable ch ≡ true → RowFacts w x → RowFacts w (put_cell c ch a x)
 unfolding put_cell
@@ -46,7 +47,7 @@ module _ {P : Screen → Type 0} (k : Kept P) where
   unfolding next_row scroll with_rows
   next-row s p =
       let f = k.facts s p in
-      cases Q _ _ _ (λ e. k.move s _ p (ltb-true _ _ e) (omega arith)) (λ e. k.move (scroll s) _ (scroll_kept s p) (omega arith) (omega arith))
+      cases Q (ltb (s.head.cursor.row + 1) (editable s.head.keys)) _ _ (λ e. k.move s _ p (ltb-true _ _ e) (omega arith)) (λ e. k.move (scroll s) _ (scroll_kept s p) (omega arith) (omega arith))
 
   pub new_line : (s : Screen) → P s → P (newline s).screen
   unfolding newline
@@ -66,14 +67,19 @@ module _ {P : Screen → Type 0} (k : Kept P) where
     put-char =
         let f = k.facts s p in
         let g = k.facts (write_cell s ch) written in
-        cases Q _ _ _ (λ e. k.move (write_cell s ch) _ written f.head.row (ltb-true _ _ e))
+        let r : ℕ = s.head.cursor.row in
+        let c : ℕ = s.head.cursor.col in
+        let u : Screen = write_cell s ch in
+        cases Q (ltb (c + 1) s.head.width) (still (move_to u (at r (c + 1)))) (next_row (with_rows u (set_flag u.rows r 1)))
+        (λ e. k.move (write_cell s ch) _ written f.head.row (ltb-true _ _ e))
         (λ e. next-row _ (k.edit (write_cell s ch) _ written (edited_flag g.rows _ 1 f.head.row f.head.edit_to (omega arith))))
 
   pub print-byte : (cr : Bool) (s : Screen) (b : ℕ) → P s → P (print_byte cr s b).screen
   unfolding print_byte
   print-byte cr s b p =
       let line = new_line s p in
-      either Q _ _ _ line (either Q _ _ _ (either Q _ _ _ p line) (cases Q _ _ _ (λ v. put-char s b v p) (λ e. p)))
+      either Q (eqb b 13) (newline s) _ line
+      (either Q (eqb b 10) _ _ (either Q cr (still s) (newline s) p line) (cases Q (printable b) (put_char s b) (still s) (λ v. put-char s b v p) (λ e. p)))
 
   pub printed : (bs : List ℕ) (cr : Bool) (s : Screen) → P s → P (print cr s bs).screen
   unfolding print

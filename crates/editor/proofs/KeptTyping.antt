@@ -1,5 +1,6 @@
 -- Typing and the line keys only move the cursor and change editable rows.
 -- Assumes nothing.
+use lib.Dec.{ltb, leb, eqb}
 use Prim.Native.Nat.{ℕ, zero, suc, ◌+◌, ◌-◌, ◌≤◌, ◌<◌}
 use mathlib.Core.Path.{◌≡◌, refl}
 use mathlib.Core.Bool.{true}
@@ -14,9 +15,9 @@ use Rattle.octets.proofs.Bools.{cases, either, every_both, every_cons, every_tak
 use Rattle.grid.proofs.Keep.{edited_flag}
 use Rattle.line.specs.Line.{MAX-LOGICAL, start_of, content, index}
 use Rattle.editor.specs.Typing.{type_within, type_limited, delete_char, backspace, erase_to_end}
-use Rattle.editor.specs.Lines.{escape_line, ctrl_enter, take_logical_line, break_line}
+use Rattle.editor.specs.Lines.{escape_line, ctrl_enter, take_logical_line, break_line, too_long}
 use Rattle.editor.specs.Tab
-use Rattle.editor.specs.Tab.{type_spaces, tab}
+use Rattle.editor.specs.Tab.{type_spaces, next_stop, tab}
 use Rattle.line.proofs.Kept.{Kept}
 use Rattle.line.proofs.KeptLine.{SpanFacts, span, TextFacts, content_text, respliced, spliced}
 use Rattle.editor.proofs.KeptPrint.{next-row}
@@ -112,17 +113,17 @@ module _ {P : Screen → Type 0} (k : Kept P) where
     pub tabbed : P (tab s)
     unfolding tab Tab.tabbed
     tabbed =
-        either P _ _ _ (type-spaces _ s p)
-        (cases (λ (c : Cursor). P (move_to s c)) _ _ _ (λ e. k.move s _ p f.head.row (ltb-true _ _ e))
+        either P (eqb s.head.insert 1) _ _ (type-spaces _ s p)
+        (cases (λ (c : Cursor). P (move_to s c)) (ltb (next_stop s.head.cursor.col) s.head.width) _ _ (λ e. k.move s _ p f.head.row (ltb-true _ _ e))
         (λ e.
-        cases (λ (c : Cursor). P (move_to s c)) _ _ _ (λ e. k.move s _ p (ltb-true _ _ e) (omega (arith, f)))
+        cases (λ (c : Cursor). P (move_to s c)) (ltb (s.head.cursor.row + 1) (editable s.head.keys)) _ _ (λ e. k.move s _ p (ltb-true _ _ e) (omega (arith, f)))
         (λ e. k.move s _ p f.head.row f.head.col)))
 
     pub ctrl-enter : P (ctrl_enter s)
     unfolding ctrl_enter with_rows
     ctrl-enter =
-        cases P _ _ _ (λ e. p)
-        (λ e. either P _ _ _ p
+        cases P (leb (editable s.head.keys) (s.head.cursor.row + 1)) _ _ (λ e. p)
+        (λ e. either P (too_long s) _ _ p
         (k.move _ _ (k.edit s _ p (edited_flag f.rows _ 1 f.head.row f.head.edit_to (omega arith))) (leb-false _ _ e) (omega (arith, f))))
 
     pub take_line : P (take_logical_line s)

@@ -6,7 +6,7 @@ use mathlib.Core.Bool.{Bool, true, false}
 use mathlib.Core.List.{List, [], ◌∷◌, ◌++◌}
 use mathlib.Core.Logic.{◌≢◌, ◌⊎◌, inl, inr, ⊎_elim}
 use native.Mathlib.Omega.{arith}
-use lib.Dec.{leb}
+use lib.Dec.{leb, eqb}
 use lib.ListN.{length, take, drop, set, length-append, length-take, length-drop, length-set}
 use borrow.Author.Tests.{ltb-true, ltb-false, leb-true, leb-false, eqb-true, lt-ltb, le-ltb, le-leb, lt-leb, eq-eqb, ne_eqb}
 use Rattle.std.specs.Prelude.{if◌then◌else◌}
@@ -69,7 +69,7 @@ module _ (limit : ℕ) (s : Screen) (ch : ℕ) where
       go : (s.head.insert ≡ 1) ⊎ (length (content s) ≤ index s) → type_within limit s (content s) (index s) ch ≡ s
       go (inl on) = rw (eq-eqb s.head.insert 1 on, is_full)
       go (inr past) =
-          cases (λ (x : Screen). x ≡ s) _ _ _ (λ e. rw is_full)
+          cases (λ (x : Screen). x ≡ s) (eqb s.head.insert 1) _ _ (λ e. rw is_full)
           (λ e. rw (le-ltb (index s) (length (content s)) past, is_full))
 
   -- a character that stands inside is typed over, whatever the limit

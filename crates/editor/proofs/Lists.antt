@@ -181,7 +181,7 @@ unfolding accepted
 accepted_fewer [] l = omega arith
 accepted_fewer (c ∷ cs) l =
     let ih = accepted_fewer cs (changing c l).rec in
-    either (λ (ds : List Call). length ds ≤ length (c ∷ cs)) _ _ _ (omega arith) (omega arith)
+    either (λ (ds : List Call). length ds ≤ length (c ∷ cs)) (is_refusal (changing c l).number) _ _ (omega arith) (omega arith)
 
 -- the first is, and so are the others
 pub all_accepted : (c : Call) (cs : List Call) (l : List ℕ) → accepted l (c ∷ cs) ≡ c ∷ cs

@@ -22,7 +22,7 @@ use Rattle.editor.specs.Call.{Call, rule, apply, last_cr, cr_left, cr_after, aft
 use Rattle.editor.specs.Call.Call.{PrintBytes}
 use Rattle.editor.specs.Outcome.{LAST-SERIAL, changing}
 use Rattle.editor.specs.Refusals.{ChangeRefused}
-use Rattle.editor.specs.Refusals.ChangeRefused.{record_length, layout, last_serial}
+use Rattle.editor.specs.Refusals.ChangeRefused.{record_length, lent_length, layout, argument, last_serial}
 use Rattle.editor.proofs.Refusals.{changing_answers, change_none, going}
 use Rattle.editor.proofs.Lists.{change_refused, change_accepted}
 
@@ -35,6 +35,8 @@ accepted_on bs l size v last = (changing_answers (PrintBytes bs) l).number.accep
     none k (record_length n) = n size
     none k (layout n) = n v
     none k (last_serial e) = last e
+    none k (lent_length x) = elim x [ ]
+    none k (argument x) = elim x [ ]
 
 -- so where another call is accepted, it is
 pub also_accepted : (c : Call) (bs l : List ℕ) → (changing c l).number < refused 1 → (changing (PrintBytes bs) l).number < refused 1

@@ -90,7 +90,8 @@ pub byte_only : (cr : Bool) (s : Screen) (b : ℕ) → MovesOnly s.head (print_b
 unfolding print_byte
 byte_only cr s b =
     let only : Advanced → Type 0 = MovesOnly s.head in
-    either only _ _ _ (newline_only s) (either only _ _ _ (either only _ _ _ refl (newline_only s)) (either only _ _ _ (put_only s b) refl))
+    either only (eqb b 13) (newline s) _ (newline_only s)
+    (either only (eqb b 10) _ _ (either only cr (still s) (newline s) refl (newline_only s)) (either only (printable b) (put_char s b) (still s) (put_only s b) refl))
 
 -- ---- one print after another
 

@@ -263,7 +263,7 @@ module _ (w sitting : ℕ) (l : List ℕ) where
   creating_answers =
       let a =
       answered (λ (o : Written). o.number)
-      (found (NewRefused l) ((1, eqb (length l) SIZE) ∷ []) (unfold ordered place_in order if◌then◌else◌ in refl) new_sound new_whole)
+      (found (NewRefused l) ((1, eqb (length l) SIZE) ∷ []) (unfold ordered place_in order in refl) new_sound new_whole)
       (record { number = 0; bytes = state_bytes (new_state w sitting) }) (record { number = refused _; bytes = l }) (λ e. omega arith) refl in
       record { number = a.refuses; kept = λ h. ap (λ (o : Written). o.bytes) (a.kept h); done = a.done }
 

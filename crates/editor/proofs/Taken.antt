@@ -5,14 +5,14 @@ use mathlib.Core.Path.{◌≡◌, refl, sym, ap, ◌∙◌, subst}
 use mathlib.Core.Bool.{Bool, true, false, ◌&&◌}
 use mathlib.Core.List.{List, [], ◌∷◌}
 use native.Mathlib.Omega.{arith}
-use lib.Dec.{eqb, ltb}
+use lib.Dec.{eqb, ltb, leb}
 use lib.ListN.{length, get_or, take, drop, drop_of_length-le}
 use lib.Seq.{length-take-le, drop-cons}
 use borrow.Author.Tests.{leb-true, leb-false, ltb-true, ltb-false, eqb-true}
 use Rattle.std.specs.Prelude.{if◌then◌else◌}
 use Rattle.octets.proofs.Bools.{cases, either, and_false}
-use Rattle.grid.specs.Screen.{Screen}
-use Rattle.editor.specs.Print.{Advanced, next_row, newline, put_char, print_byte, print}
+use Rattle.grid.specs.Screen.{Screen, editable, printable}
+use Rattle.editor.specs.Print.{Advanced, next_row, newline, put_char, print_byte, print, wrapped}
 use Rattle.editor.specs.Waiting.{scrolls_of, longest, taken}
 use Rattle.editor.specs.Call.{last_cr}
 use Rattle.editor.proofs.PrintParts.{follows, print_next, print_more}
@@ -24,21 +24,21 @@ AtMostOne a = a.scrolls ≤ 1
 
 pub next_most : (s : Screen) → AtMostOne (next_row s)
 unfolding next_row
-next_most s = either AtMostOne _ _ _ (omega arith) (omega arith)
+next_most s = either AtMostOne (ltb (s.head.cursor.row + 1) (editable s.head.keys)) _ _ (omega arith) (omega arith)
 
 newline_most : (s : Screen) → AtMostOne (newline s)
 unfolding newline
-newline_most s = either AtMostOne _ _ _ (omega arith) (next_most s)
+newline_most s = either AtMostOne (wrapped s) _ _ (omega arith) (next_most s)
 
 put_most : (s : Screen) (ch : ℕ) → AtMostOne (put_char s ch)
 unfolding put_char
-put_most s ch = either AtMostOne _ _ _ (omega arith) (next_most _)
+put_most s ch = either AtMostOne (ltb (s.head.cursor.col + 1) s.head.width) _ _ (omega arith) (next_most _)
 
 pub byte_most : (cr : Bool) (s : Screen) (b : ℕ) → AtMostOne (print_byte cr s b)
 unfolding print_byte
 byte_most cr s b =
-    either AtMostOne _ _ _ (newline_most s)
-    (either AtMostOne _ _ _ (either AtMostOne _ _ _ (omega arith) (newline_most s)) (either AtMostOne _ _ _ (put_most s b) (omega arith)))
+    either AtMostOne (eqb b 13) _ _ (newline_most s)
+    (either AtMostOne (eqb b 10) _ _ (either AtMostOne cr _ _ (omega arith) (newline_most s)) (either AtMostOne (printable b) _ _ (put_most s b) (omega arith)))
 
 -- and a 10 that belongs to its 13 none
 ten_none : (s : Screen) → (print_byte true s 10).scrolls ≡ 0
@@ -81,13 +81,13 @@ module _ (s : Screen) (bs : List ℕ) where
     unfolding longest
     longest_length zero h = omega arith
     longest_length (suc n) h =
-        either (λ (cs : List ℕ). length cs ≤ suc n) _ _ _ (omega (arith, length-take-le (suc n) bs h)) (omega (arith, longest_length n (omega arith)))
+        either (λ (cs : List ℕ). length cs ≤ suc n) (leb (scrolls_of s (take (suc n) bs)) rows) _ _ (omega (arith, length-take-le (suc n) bs h)) (omega (arith, longest_length n (omega arith)))
 
     longest_front : (n : ℕ) → n ≤ length bs → take (length (longest s rows bs n)) bs ≡ longest s rows bs n
     unfolding longest
     longest_front zero h = refl
     longest_front (suc n) h =
-        either (λ (cs : List ℕ). take (length cs) bs ≡ cs) _ _ _ (ap (λ (i : ℕ). take i bs) (length-take-le (suc n) bs h)) (longest_front n (omega arith))
+        either (λ (cs : List ℕ). take (length cs) bs ≡ cs) (leb (scrolls_of s (take (suc n) bs)) rows) _ _ (ap (λ (i : ℕ). take i bs) (length-take-le (suc n) bs h)) (longest_front n (omega arith))
 
     longest_most : (n : ℕ) → scrolls_of s (longest s rows bs n) ≤ rows
     unfolding longest
@@ -99,7 +99,7 @@ module _ (s : Screen) (bs : List ℕ) where
     unfolding longest
     longest_stop zero h = λ lt. absurd (omega arith)
     longest_stop (suc n) h =
-        cases (λ (cs : List ℕ). length cs < suc n → rows < made (length cs + 1)) _ _ _ (λ e lt. absurd (omega (arith, length-take-le (suc n) bs h)))
+        cases (λ (cs : List ℕ). length cs < suc n → rows < made (length cs + 1)) (leb (scrolls_of s (take (suc n) bs)) rows) _ _ (λ e lt. absurd (omega (arith, length-take-le (suc n) bs h)))
         (λ e lt. past (leb-false _ _ e) (longest_stop n (omega arith)) (ltb (length (longest s rows bs n)) n) refl)
       where
         past : let i = length (longest s rows bs n) in rows < made (suc n) → (i < n → rows < made (i + 1)) → (b : Bool) → ltb i n ≡ b → rows < made (i + 1)

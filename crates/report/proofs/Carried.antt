@@ -70,7 +70,7 @@ every_carry p [] rows t = refl
 every_carry p (b ∷ bs) [] t = refl
 every_carry p (b ∷ bs) (x ∷ rows) t =
     let u = every_carry p bs rows (and_right (p x) _ t) in
-    cases (λ (l : List Row). every p l ≡ true) _ _ _ (λ e. and_both (p x) _ (and_left (p x) _ t) u) (λ e. u)
+    cases (λ (l : List Row). every p l ≡ true) b (x ∷ carry bs rows) (carry bs rows) (λ e. and_both (p x) _ (and_left (p x) _ t) u) (λ e. u)
 
 pub bits_number : (bs : List Bool) → bits (length bs) (number bs) ≡ bs
 unfolding bits number

@@ -1,0 +1,13 @@
+-- `editor::print::newline` meets its contract.
+use Rattle.std.proofs.Common.{rules}
+use Rattle.editor.proofs.PrintLaws.{row_above, newline_next, newline_back}
+use Rattle.editor.proofs.print.newline.Goals as goal
+
+pub returns-then-not-wrapped : goal.returns-then-not-wrapped
+returns-then-not-wrapped c = search (rules, newline_next)
+
+pub overflow_sub-h : goal.overflow_sub-h
+overflow_sub-h c = search (rules, row_above)
+
+pub returns : goal.returns
+returns c = search (rules, newline_back)

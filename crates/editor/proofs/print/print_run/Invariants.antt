@@ -1,0 +1,14 @@
+-- The loops of `editor::print::print_run`.
+use Prim.Native.Nat.{◌-◌}
+use lib.ListN.{length}
+use mir.Syntax.{w64}
+use mir.Val.{Fits}
+use Rattle.editor.proofs.PrintLaws.{Printing}
+use Rattle.grid.specs.Record.{rows_of}
+use Rattle.editor.proofs.print.print_run.Given as goal
+
+abbrev pub invariant-loop-i : goal.invariant-loop-i
+invariant-loop-i l = Printing l.before (record { head = l.initial.h; rows = rows_of l.initial.rec }) l.bytes l.initial.rec l.rec l.i l.cr l.h 0 × Fits w64 (length l.bytes)
+
+abbrev pub decreases-loop-i : goal.decreases-loop-i
+decreases-loop-i l = length l.bytes - l.i

@@ -1,0 +1,19 @@
+-- `editor::typing::type_within` meets its contract.
+use Rattle.std.proofs.Common.{rules}
+use Rattle.editor.proofs.TypingLaws.{insert_full, extend_full, insert_done, replace_done, extend_done}
+use Rattle.editor.proofs.typing.type_within.Goals as goal
+
+pub returns-then-t-limit : goal.returns-then-t-limit
+returns-then-t-limit c = search (rules, insert_done)
+
+pub returns-then-h-eq1 : goal.returns-then-h-eq1
+returns-then-h-eq1 c = search (rules, insert_full)
+
+pub returns-then-t : goal.returns-then-t
+returns-then-t c = search (rules, replace_done)
+
+pub returns-then-t-limit-2 : goal.returns-then-t-limit-2
+returns-then-t-limit-2 c = search (rules, extend_full)
+
+pub returns : goal.returns
+returns c = search (rules, extend_done)
