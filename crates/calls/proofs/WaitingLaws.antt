@@ -65,8 +65,8 @@ module _ (bs l : List ℕ) (rows o k : ℕ) (io : o ≡ refused_with (first_of (
     where
       go : (a b : Bool) → first_of ((3, a) ∷ (7, b) ∷ []) ≡ 0 → (a ≡ true) × (b ≡ true)
       go true true e = (refl, refl)
-      go true false e = absurd (unfold first_of if◌then◌else◌ in omega (arith, e))
-      go false b e = absurd (unfold first_of if◌then◌else◌ in omega (arith, e))
+      go true false e = absurd (unfold first_of in omega (arith, e))
+      go false b e = absurd (unfold first_of in omega (arith, e))
 
   pub waiting_rows : rows ≤ 1000
   waiting_rows = leb-true rows 1000 tested.0

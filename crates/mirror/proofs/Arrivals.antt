@@ -30,7 +30,7 @@ use Rattle.report.specs.Carried.{bits}
 use Rattle.mirror.specs.Mirror.{Mirror, due_at, due, width_without_rows, shown, noted, applied, taken, mirror_bytes, read_mirror, level_of, arrival_tests, arrived, leaving, arrived_outcome, arrival}
 use Rattle.mirror.specs.declared.arrive.Arrived.{Arrived}
 use Rattle.mirror.specs.declared.arrive.Arrived.TheVariants.{Refused, Noted, Applied}
-use Rattle.mirror.specs.Order.{latest}
+use Rattle.mirror.specs.Order.{latest, same_pair}
 use Rattle.mirror.specs.Count.{later_of, Count, counted}
 use Rattle.mirror.specs.Demand3.{Sitting, screen_after, Paper, numbered}
 use Rattle.mirror.proofs.OrderLaws.{same-pair}
@@ -48,7 +48,7 @@ use Rattle.mirror.proofs.Runs.{calls, state_at, facts_at, screen_at, valid_at, p
 
 pub leaving_accepted : (μ : Mirror) → is_refusal (leaving μ).number ≡ false
 unfolding leaving level_of
-leaving_accepted μ = small_accepted _ (either (λ (n : ℕ). n ≤ refused 0) _ _ _ (omega arith) (omega arith))
+leaving_accepted μ = small_accepted _ (either (λ (n : ℕ). n ≤ refused 0) (same_pair μ.state.stamp.pair μ.newest) _ _ (omega arith) (omega arith))
 
 -- a refused slice changes nothing
 pub arrival_keeps : (l b : List ℕ) → is_refusal (arrival l b).number ≡ true → (arrival l b).bytes ≡ l

@@ -2,7 +2,7 @@
 -- Assumes nothing.
 use Prim.Native.Nat.{ℕ, zero, suc, ◌-◌, ◌≤◌}
 use mathlib.Core.Path.{◌≡◌, refl, sym, ap, ap₂, ◌∙◌, subst}
-use mathlib.Core.Bool.{Bool, true, false, true≢false}
+use mathlib.Core.Bool.{Bool, true, false, not, ◌&&◌, true≢false}
 use mathlib.Core.List.{List, [], ◌∷◌, ◌++◌}
 use native.Mathlib.Omega.{arith}
 use lib.Dec.{eqb}
@@ -28,7 +28,7 @@ use Rattle.mirror.specs.Layout.{MIRROR-SIZE, NEWEST, RECORD}
 use Rattle.mirror.specs.declared.arrive.Arrived.{Arrived}
 use Rattle.mirror.specs.declared.arrive.Arrived.TheVariants.{Refused, Noted, Applied}
 use Rattle.mirror.specs.Order.{latest}
-use Rattle.mirror.specs.Mirror.{shown, noted, applied, mirror_front, mirror_bytes, read_mirror, mirrorb, level_of, leaving, arrival_tests, arrived, arrived_outcome, arrival}
+use Rattle.mirror.specs.Mirror.{shown, due, width_without_rows, noted, applied, mirror_front, mirror_bytes, read_mirror, mirrorb, level_of, leaving, arrival_tests, arrived, arrived_outcome, arrival}
 use Rattle.mirror.specs.Parts.{Ready}
 use Rattle.mirror.proofs.MirrorLaws.{part_is, part_back}
 use Rattle.mirror.proofs.ArriveJudged.{ready_facts}
@@ -54,7 +54,13 @@ module _ (l b : List ℕ) where
   unfolding arrival_tests first_of
   first_small =
       let P : ℕ → Type 0 = λ k. k ≤ 6 in
-      either P _ _ _ (either P _ _ _ (either P _ _ _ (either P _ _ _ (omega arith) (omega arith)) (omega arith)) (omega arith)) (omega arith)
+      let r = read_report b in
+      let μ = read_mirror l in
+      either P (eqb (length l) MIRROR-SIZE) _ _
+      (either P (mirrorb l) _ _
+      (either P (reportb b) _ _ (either P (not (due r μ && width_without_rows r μ)) _ _ (omega arith) (omega arith)) (omega arith))
+      (omega arith))
+      (omega arith)
 
   first_none : first_of (arrival_tests l b) ≡ 0 → Ready l b
   unfolding arrival_tests all_pass
@@ -67,7 +73,7 @@ module _ (l b : List ℕ) where
   unfolding arrived refusal_of
   small =
       let P : Arrived → Type 0 = λ a. refusal_of a ≤ 6 in
-      either P _ _ _ first_small (either P _ _ _ (omega arith) (omega arith))
+      either P (not (eqb (first_of (arrival_tests l b)) 0)) _ _ first_small (either P (due (read_report b) (read_mirror l)) _ _ (omega arith) (omega arith))
 
   ready : is_refused (arrived l b) ≡ false → Ready l b
   unfolding arrived is_refused

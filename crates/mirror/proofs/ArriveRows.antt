@@ -97,7 +97,6 @@ module _ (b : List ℕ) (mask from : ℕ) where
             → (if h then set (rows_of m) r (row_in b at) else rows_of m)
             ≡ (if h then set (merge (bits r mask) carried (rows_of l)) r (get_or carried (rows_before mask r) no_row) else merge (bits r mask) carried (rows_of l))
         go true e =
-            unfold if◌then◌else◌ in
             ap₂ (λ (x : List Row) (y : Row). set x r y) a.becomes.rows
             (ap (row_in b) a.place ∙ sym (row-at from (ones mask) b (rows_before mask r) no_row (before_lt mask r e)))
         go false e = a.becomes.rows

@@ -51,7 +51,7 @@ module _ (w sitting : ℕ) (l : List ℕ) where
   creating_mirror_answers =
       let a =
       answered (λ (o : Written). o.number)
-      (found (NewMirrorRefused l) ((1, eqb (length l) MIRROR-SIZE) ∷ []) (unfold ordered place_in order if◌then◌else◌ in refl) new_sound new_whole)
+      (found (NewMirrorRefused l) ((1, eqb (length l) MIRROR-SIZE) ∷ []) (unfold ordered place_in order in refl) new_sound new_whole)
       (record { number = 0; bytes = mirror_bytes (new_mirror w sitting) }) (record { number = refused _; bytes = l }) (λ e. omega arith) refl in
       record { number = a.refuses; kept = λ h. ap (λ (o : Written). o.bytes) (a.kept h); done = a.done }
 
@@ -125,15 +125,15 @@ module _ (l b : List ℕ) where
     where
       go : (z d : Bool) (k : ℕ) → arrived_outcome (if not z then Refused k else if d then Applied else Noted) l b
           ≡ (if z then leaving (if d then applied (read_report b) (read_mirror l) else noted (read_report b) (read_mirror l)) else record { number = refused k; bytes = l })
-      go false d k = unfold arrived_outcome if◌then◌else◌ in refl
-      go true false k = unfold arrived_outcome if◌then◌else◌ in refl
-      go true true k = unfold arrived_outcome if◌then◌else◌ in refl
+      go false d k = unfold arrived_outcome in refl
+      go true false k = unfold arrived_outcome in refl
+      go true true k = unfold arrived_outcome in refl
 
   pub arrival_answers : ArrivalAnswers l b
   arrival_answers =
       let a =
       answered (λ (o : Written). o.number) arrival_found (leaving (taken (read_report b) (read_mirror l))) (record { number = refused first; bytes = l })
-      (λ e. unfold leaving level_of in either (λ (n : ℕ). n < refused 0) _ _ _ (omega arith) (omega arith)) refl in
+      (λ e. unfold leaving level_of in either (λ (n : ℕ). n < refused 0) (same_pair (taken (read_report b) (read_mirror l)).state.stamp.pair (taken (read_report b) (read_mirror l)).newest) _ _ (omega arith) (omega arith)) refl in
       let is = sym arrival_is in
       record {
         number = subst (λ (o : Written). Refuses (ArrivalRefused l b) o.number) is a.refuses;

@@ -1,0 +1,14 @@
+-- `calls::refusal::change_refused` meets its contract.
+use Rattle.std.proofs.Common.{rules}
+use Rattle.grid.proofs.RefusalLaws.{size_known}
+use Rattle.calls.proofs.RefusalLaws.{refused_record, refused_late}
+use Rattle.calls.proofs.refusal.change_refused.Goals as goal
+
+pub returns-then-n-ne0 : goal.returns-then-n-ne0
+returns-then-n-ne0 c = search (rules, refused_record)
+
+pub late_refused-requires : goal.late_refused-requires
+late_refused-requires c = search (rules, size_known)
+
+pub returns : goal.returns
+returns c = search (rules, refused_late)

@@ -1,0 +1,17 @@
+-- `queries::reading::editable_rows` meets its contract.
+use Rattle.std.proofs.Common.{rules}
+use Rattle.queries.proofs.ReadingLaws.{ask_refused, asked_rows, rows_fit}
+use Rattle.grid.proofs.RefusalLaws.{size_known}
+use Rattle.queries.proofs.reading.editable_rows.Goals as goal
+
+pub returns-then-n-ne0 : goal.returns-then-n-ne0
+returns-then-n-ne0 c = search (rules, ask_refused)
+
+pub read_head-h-requires : goal.read_head-h-requires
+read_head-h-requires c = search (rules, size_known)
+
+pub overflow_cast-result : goal.overflow_cast-result
+overflow_cast-result c = search (rules, rows_fit)
+
+pub returns : goal.returns
+returns c = search (rules, asked_rows)
