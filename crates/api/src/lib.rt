@@ -1,4 +1,4 @@
-// The calls that a host links: `rt staticlib api` makes the one archive. Each is a call of the crates below under its C name.
+// The calls that a host makes, each a call of the crates below. The crate `api_c` has them under their C names, for the one archive.
 //
 // Promised: none has a `requires`, and the contract of each says, for every lent slice and all numbers, the number answered and every byte left.
 #![tactic(auto)]

@@ -16,7 +16,7 @@ use Rattle.octets.specs.Test.{every, zerob}
 use Rattle.grid.specs.Facts.{HeadFacts, RowFacts, RowsFacts, ScreenFacts}
 use Rattle.octets.proofs.Bools.{cases, every_both, every_cons, every_take, every_drop, every_at, every_set, every_replicate}
 use Rattle.grid.proofs.RowLaws.{length_padded}
-use Rattle.octets.proofs.WidthLaws.{width_from, width_to}
+use Rattle.octets.proofs.WidthLaws.{width_from}
 use Rattle.grid.proofs.Validity.{editable_from, head_is, row_facts, row_valid}
 
 -- ---- lists of rows: the count goes along, so that in the end it is one `omega`

@@ -9,7 +9,6 @@ use mathlib.Core.Logic.{◌≢◌, ⊎_elim}
 use lib.Dec.{eqb}
 use lib.ListN.{length}
 use borrow.Author.Tests.{not-true, not-false, eq-eqb, ne_eqb, eqb-true, eqb-false}
-use Rattle.std.specs.Prelude.{if◌then◌else◌}
 use Rattle.octets.specs.Answer.{refused}
 use Rattle.octets.specs.Refusals.{order, place_in, first_of, all_pass, refused_with}
 use Rattle.octets.proofs.Bools.{and_left, and_right, and_false, left_false, and_cases}

@@ -22,7 +22,7 @@ use Rattle.octets.specs.Part.{window}
 use Rattle.grid.specs.Record.{row_of, rows_of, head_of, frontb, validb, touched_of}
 use Rattle.grid.specs.Counted.{Wrong}
 use Rattle.grid.specs.declared.head.Head.{Head}
-use Rattle.octets.proofs.Bools.{and_false, every_append, every_not, count_turn, every_snoc}
+use Rattle.octets.proofs.Bools.{every_append, every_not, count_turn, every_snoc}
 use Rattle.octets.proofs.PartLaws.{length_window, window_none, window_more, drop_window, take_window}
 use Rattle.grid.proofs.RowLaws.{full_row, length_rows, get_d_rows}
 use Rattle.std.specs.Prelude.{if◌then◌else◌}

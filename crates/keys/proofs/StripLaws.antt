@@ -10,7 +10,6 @@ use lib.Dec.{eqb}
 use lib.ListN.{length, get_or, take, set, replicate, length-map, length-append, length-take, length-replicate}
 use lib.Seq.{take-suc, take-nil, length-take-le}
 use borrow.Author.Tests.{lt-ltb, le-ltb, eq-eqb, ne_eqb}
-use Rattle.std.specs.Prelude.{if◌then◌else◌}
 use Rattle.octets.specs.Part.{write}
 use Rattle.octets.proofs.PartLaws.{write_none, write_more, write_append, cons_write}
 use Rattle.keys.specs.Keys.{MACRO_LEN, display, displayed, digit, slot, slots_from, strip}

@@ -11,7 +11,6 @@ use lib.Dec.{eqb}
 use lib.ListN.{length, replicate}
 use lib.Count.{ones, ones_step, ones-le}
 use borrow.Author.Tests.{eqb-true, eqb-false}
-use Rattle.std.specs.Prelude.{if◌then◌else◌}
 use Rattle.grid.specs.Screen.{Row, same, same_row, differing, number}
 use Rattle.octets.specs.Test.{every}
 use Rattle.octets.proofs.Bools.{and_left, and_right, and_both, cases}

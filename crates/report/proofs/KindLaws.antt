@@ -6,7 +6,6 @@ use mathlib.Core.Bool.{true}
 use native.Mathlib.Omega.{arith}
 use lib.Dec.{ltb, eqb}
 use borrow.Author.Tests.{ltb-true, eqb-true, eq-eqb, ne_eqb}
-use Rattle.std.specs.Prelude.{if◌then◌else◌}
 use Rattle.octets.proofs.Bools.{pick, skip}
 use Rattle.grid.specs.Layout.{MASKS}
 use Rattle.report.specs.Layout.{ROWS, STEP, FULL, ALL-ROWS}

@@ -2,7 +2,6 @@
 use mathlib.Core.Path.{◌≡◌}
 use Prim.Native.Nat.{◌-◌, ◌≤◌}
 use lib.Dec.{eqb}
-use Rattle.values.specs.Cursor.{at}
 use Rattle.grid.specs.Screen.{same}
 use Rattle.octets.specs.Part.{window}
 use Rattle.grid.proofs.touched.part_same.Given as goal

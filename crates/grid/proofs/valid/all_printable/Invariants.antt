@@ -2,7 +2,6 @@
 use mathlib.Core.Path.{◌≡◌}
 use Prim.Native.Nat.{◌-◌, ◌≤◌}
 use lib.Dec.{eqb}
-use Rattle.values.specs.Cursor.{at}
 use Rattle.octets.specs.Test.{every}
 use Rattle.grid.specs.Screen.{printable}
 use Rattle.octets.specs.Part.{window}

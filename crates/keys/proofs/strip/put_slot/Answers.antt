@@ -2,7 +2,6 @@
 use native.Mathlib.Omega.{arith}
 use lib.ListN.{length-set}
 use Rattle.std.proofs.Common.{rules}
-use Rattle.keys.specs.Keys.{digit}
 use Rattle.keys.proofs.StripLaws.{slot_end}
 use Rattle.keys.proofs.strip.put_slot.Goals as goal
 

@@ -4,7 +4,6 @@ use Prim.Native.Nat.{◌+◌, ◌-◌, ◌*◌, ◌≤◌}
 use lib.ListN.{length}
 use Rattle.report.specs.Layout.{ROW-SIZE}
 use Rattle.report.proofs.ReportLaws.{Carried}
-use Rattle.values.specs.Cursor.{at}
 use Rattle.report.proofs.report.carry_rows.Given as goal
 
 abbrev pub invariant-loop-r : goal.invariant-loop-r

@@ -1,0 +1,12 @@
+// The key strip.
+ghost use Rattle.octets.specs.Answer.{Writes};
+ghost use Rattle.keys.specs.Keys.{stripping};
+
+use api::strip;
+
+#[unsafe(no_mangle)]
+pub extern "C" fn keys_strip(tab: &[u8], offset: u32, width: u32, out: &mut [u8]) -> u32
+    ensures { Writes (stripping tab.now offset width out.old) result out.new }
+{
+    strip::keys_strip(tab, offset, width, out)
+}
