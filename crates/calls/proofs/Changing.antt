@@ -11,7 +11,6 @@ use lib.ListN.{length, drop}
 use mir.Syntax.{w8}
 use mir.Val.{Fits}
 use borrow.Author.Tests.{eq-eqb, ne_eqb, leb-true}
-use Rattle.std.specs.Prelude.{if◌then◌else◌}
 use Rattle.octets.specs.Answer.{over}
 use Rattle.octets.specs.Width.{widthb}
 use Rattle.octets.specs.Refusals.{first_of, all_pass, refused_with, or_else}

@@ -5,7 +5,6 @@ use mathlib.Core.Path.{◌≡◌, refl}
 use mathlib.Core.List.{List}
 use lib.ListN.{length}
 use borrow.Author.Tests.{eq-eqb, ne_eqb}
-use Rattle.std.specs.Prelude.{if◌then◌else◌}
 use Rattle.octets.specs.Answer.{refused, unless, Writes}
 use Rattle.octets.specs.Refusals.{first_of}
 use Rattle.grid.specs.Layout.{SIZE}

@@ -6,7 +6,6 @@ use mathlib.Core.Bool.{Bool, true, false}
 use mathlib.Core.List.{List, [], ◌∷◌, ◌++◌}
 use mathlib.Core.Logic.{◌≢◌}
 use borrow.Author.Tests.{eq-eqb, ne_eqb}
-use Rattle.std.specs.Prelude.{if◌then◌else◌}
 use Rattle.octets.specs.Answer.{refused}
 use Rattle.octets.specs.Refusals.{first_of, refused_with, or_else}
 use Rattle.octets.proofs.Found.{ordered, ordered_left, ordered_right, answer_append, else_here, else_past, else_none, refused_zero}

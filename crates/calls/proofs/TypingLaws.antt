@@ -8,7 +8,6 @@ use lib.Dec.{leb}
 use mir.Syntax.{w8}
 use mir.Val.{Fits}
 use borrow.Author.Tests.{le-leb, lt-leb}
-use Rattle.std.specs.Prelude.{if◌then◌else◌}
 use Rattle.octets.specs.Answer.{refused}
 use Rattle.octets.specs.Refusals.{first_of, refused_with}
 use Rattle.octets.proofs.Bools.{and_right}

@@ -12,7 +12,6 @@ use lib.Seq.{length-take-le}
 use mir.Syntax.{w32}
 use mir.Val.{Fits}
 use borrow.Author.Tests.{leb-true}
-use Rattle.std.specs.Prelude.{if◌then◌else◌}
 use Rattle.octets.specs.Answer.{refused}
 use Rattle.octets.specs.Refusals.{first_of, refused_with}
 use Rattle.octets.proofs.Found.{else_none, refused_none, refused_zero}

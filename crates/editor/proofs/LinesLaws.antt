@@ -3,7 +3,6 @@
 use Prim.Native.Nat.{ℕ, ◌+◌, ◌-◌, ◌*◌, ◌≤◌, ◌<◌}
 use mathlib.Core.Path.{◌≡◌, refl, sym, ap, ap₂, ◌∙◌, subst}
 use mathlib.Core.Bool.{Bool, true, false, not, ◌&&◌}
-use mathlib.Core.Bool
 use mathlib.Core.List.{List}
 use native.Mathlib.Omega.{arith}
 use native.Mathlib.Nat.{mul-le-mul}
@@ -12,7 +11,6 @@ use mir.Val.{Fits}
 use lib.Dec.{leb, ltb, eqb}
 use lib.ListN.{length, take, set}
 use borrow.Author.Tests.{not-true, not-false, eq-eqb, ne_eqb, lt-ltb, le-ltb, le-leb, lt-leb, ltb-true}
-use Rattle.std.specs.Prelude.{if◌then◌else◌}
 use Rattle.grid.specs.Screen.{Row, Screen, row_at, flag_row, set_flag, with_cursor, with_rows, move_to, editable, is_empty, trim}
 use Rattle.values.specs.Cursor.{at}
 use Rattle.grid.specs.Record.{row_of, rows_of, head_of, screen_of, Becomes, Leaves}

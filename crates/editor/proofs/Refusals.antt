@@ -9,7 +9,6 @@ use native.Mathlib.Omega.{arith}
 use lib.ListN.{length, get_or}
 use lib.Dec.{leb, ltb, eqb}
 use borrow.Author.Tests.{ltb-false, leb-true, leb-false, eqb-false, le-ltb, lt-leb, eq-eqb, eqb-true, ne_eqb, not-false}
-use Rattle.std.specs.Prelude.{if◌then◌else◌}
 use Rattle.octets.specs.Answer.{refused, over, Written, unless, wrote}
 use Rattle.grid.specs.Layout.{SIZE}
 use Rattle.grid.specs.Screen.{Screen, new_state}

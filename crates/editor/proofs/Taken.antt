@@ -9,7 +9,6 @@ use lib.Dec.{eqb, ltb, leb}
 use lib.ListN.{length, get_or, take, drop, drop_of_length-le}
 use lib.Seq.{length-take-le, drop-cons}
 use borrow.Author.Tests.{leb-true, leb-false, ltb-true, ltb-false, eqb-true}
-use Rattle.std.specs.Prelude.{if◌then◌else◌}
 use Rattle.octets.proofs.Bools.{cases, either, and_false}
 use Rattle.grid.specs.Screen.{Screen, editable, printable}
 use Rattle.editor.specs.Print.{Advanced, next_row, newline, put_char, print_byte, print, wrapped}

@@ -7,7 +7,6 @@ use mathlib.Core.List.{List}
 use lib.Dec.{eqb}
 use lib.ListN.{length, take, drop}
 use borrow.Author.Tests.{not-true, not-false, eq-eqb, ne_eqb}
-use Rattle.std.specs.Prelude.{if◌then◌else◌}
 use Rattle.octets.specs.Refusals.{first_of}
 use Rattle.octets.proofs.Bools.{pick, skip}
 use Rattle.grid.specs.Record.{head_of, pair_of, stamp_of, read_state}

@@ -10,7 +10,6 @@ use lib.ListN.{length, get_or, take, drop}
 use mir.Syntax.{w8, w32}
 use mir.Val.{Fits}
 use borrow.Author.Tests.{eqb-true, not-false, lt-ltb}
-use Rattle.std.specs.Prelude.{if◌then◌else◌}
 use Rattle.octets.specs.Answer.{refused, Written, Writes}
 use Rattle.grid.specs.Pair.{pair_at}
 use Rattle.grid.specs.declared.pair.Pair.{Pair}

@@ -21,7 +21,7 @@ use Rattle.report.specs.declared.kind.Kind.{Kind}
 use Rattle.mirror.specs.Mirror.{Mirror, mirror_bytes, new_mirror, creating_mirror, leaving, arrival}
 use Rattle.mirror.specs.Refusals.{AtMost}
 use Rattle.mirror.specs.Count.{Heard, heard_in, Count, counted, start, tally}
-use Rattle.mirror.specs.Demand3.{count, Sitting, screen_after, in_place, Paper, sitting, numbered, Arrival, made, slice, report, arriving, mirror_after, May, Line, heard, shown, newest}
+use Rattle.mirror.specs.Demand3.{count, Sitting, screen_after, in_place, Paper, sitting, numbered, Arrival, made, slice, report, arriving, mirror_after, May, Line, heard}
 use Rattle.mirror.proofs.RoundTrips.{MirrorFacts}
 use Rattle.octets.proofs.Found.{unless_none}
 use Rattle.mirror.proofs.Later.{most_refl}

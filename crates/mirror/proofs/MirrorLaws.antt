@@ -10,7 +10,6 @@ use lib.Dec.{eqb}
 use lib.ListN.{length, get_or, take, drop, set, length-drop, drop_of_length-le}
 use lib.Seq.{take_all, drop_at, length-take-le}
 use borrow.Author.Tests.{not-true, not-false, eq-eqb, ne_eqb}
-use Rattle.std.specs.Prelude.{if◌then◌else◌}
 use Rattle.octets.specs.Answer.{refused, unless, Writes}
 use Rattle.grid.specs.Screen.{new_state}
 use Rattle.octets.specs.Part.{write}

@@ -20,7 +20,6 @@ use Rattle.line.specs.Line.{reading, line_text}
 use mir.Val.{Fits}
 use Rattle.editor.specs.Motion.{end_of_line}
 use mir.Syntax.{w64}
-use Rattle.std.specs.Prelude.{if◌then◌else◌}
 use native.Mathlib.Nat.{div-le_self}
 use borrow.Author.Tests.{lt-ltb, le-ltb}
 

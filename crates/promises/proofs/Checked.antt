@@ -3,7 +3,6 @@
 use mathlib.Core.Path.{◌≡◌, refl}
 use mathlib.Core.Bool.{true}
 use lib.Count.{ones, ones_in}
-use Rattle.std.specs.Prelude.{if◌then◌else◌}
 use Rattle.values.specs.Attr.{attr_of, byte_of}
 use Rattle.grid.specs.Screen.{valid_attr, valid_head, valid_row, valid_screen, with_rows, move_to, put_cell, flag_row, set_flag, scrolled, no_row, row_at, editable, blank_row, line_row, spaced, padded, new_head, new_screen, new_state, trim, trim_by, is_space, is_empty, printable, same, same_row, differing, number, touched_rows}
 use Rattle.octets.specs.Test.{every, zerob}

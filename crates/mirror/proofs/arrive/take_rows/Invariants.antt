@@ -1,8 +1,6 @@
 -- The loops of `mirror::arrive::take_rows`.
 use Prim.Native.Nat.{◌-◌, ◌≤◌}
-use Rattle.mirror.specs.Demand3.{report}
 use Rattle.mirror.proofs.ArriveRows.{Replaced}
-use Rattle.values.specs.Cursor.{at}
 use Rattle.mirror.proofs.arrive.take_rows.Given as goal
 
 abbrev pub invariant-loop-r : goal.invariant-loop-r

@@ -2,7 +2,6 @@
 use Prim.Native.Nat.{◌-◌, ◌*◌, ◌≤◌}
 use lib.ListN.{take}
 use Rattle.moves.specs.Shown.{lines, Puts}
-use Rattle.values.specs.Cursor.{at}
 use Rattle.grid.specs.Record.{rows_of}
 use Rattle.moves.proofs.text.put_lines.Given as goal
 

@@ -1,8 +1,7 @@
 -- The loops of `moves::words::past_gap`.
 use mathlib.Core.Path.{◌≡◌}
-use Prim.Native.Nat.{◌-◌, ◌≤◌, max}
+use Prim.Native.Nat.{◌-◌, ◌≤◌}
 use Rattle.editor.specs.Words.{past_gap}
-use Rattle.values.specs.Cursor.{at}
 use Rattle.grid.specs.Record.{screen_of}
 use Rattle.moves.proofs.words.past_gap.Given as goal
 

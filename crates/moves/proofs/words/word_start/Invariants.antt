@@ -2,7 +2,6 @@
 use mathlib.Core.Path.{◌≡◌}
 use Prim.Native.Nat.{◌≤◌}
 use Rattle.editor.specs.Words.{word_start}
-use Rattle.values.specs.Cursor.{at}
 use Rattle.grid.specs.Record.{screen_of}
 use Rattle.moves.proofs.words.word_start.Given as goal
 
