@@ -1,4 +1,4 @@
-//! Links the archive that `rt staticlib api` makes.
+//! Links the archive that `tools/archive` makes.
 use std::{env, path::PathBuf, process::exit};
 
 fn main() {
@@ -10,7 +10,7 @@ fn main() {
     let archive = folder.join("libapi.a");
     println!("cargo:rerun-if-changed={}", archive.display());
     if !archive.is_file() {
-        eprintln!("There is no {}: `rt staticlib api`, in the repository's root, makes it.", archive.display());
+        eprintln!("There is no {}: `tools/archive`, in the repository's root, makes it.", archive.display());
         eprintln!("FUTONROBIN_ARCHIVE names another folder that holds libapi.a.");
         exit(1);
     }

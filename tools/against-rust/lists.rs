@@ -25,9 +25,9 @@ fn claim(n: usize, list: &List, prefix: usize, answer: bool) -> String {
         .collect();
     let (width, sitting) = (list.first_width, list.sitting);
     format!(
-        "\nlist-{n} : agrees (newState {width} {sitting}) ({calls}[]) ({sums}[]) ≡ {answer}\n\
+        "\nlist_{n} : agrees (new_state {width} {sitting}) ({calls}[]) ({sums}[]) ≡ {answer}\n\
          unfolding agrees\n\
-         list-{n} = refl\n"
+         list_{n} = refl\n"
     )
 }
 
