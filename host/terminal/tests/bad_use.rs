@@ -212,12 +212,15 @@ const ANSWERED: [&str; 12] = [
     "candidate --to x --version",
     "invigilator --listen bad --help",
 ];
-const UNDERSTOOD: [&str; 6] = [
+const UNDERSTOOD: [&str; 9] = [
     "",
+    "--width 40 --loss 1 --repeat 2 --reorder 3 --seed 4 --print a",
     "--width 40 --loss 1 --repeat 2 --reorder 3 --seed 4 --print a --field 5",
     "key a",
     "--loss --help",
+    "candidate --to a --key b --keys c --sitting 5 --width 80 --print d",
     "candidate --to a --key b --keys c --sitting 5 --width 80 --print d --field 60",
+    "invigilator --listen a --key b --keys c --print d",
     "invigilator --listen a --key b --keys c --print d --field 60",
 ];
 
