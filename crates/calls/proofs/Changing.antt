@@ -124,7 +124,7 @@ module _ (c : Call) (l : List ℕ) (o k : ℕ) (io : o ≡ refused_with (first_o
     head_kept : (h : Head) → h ≡ (apply c (screen_of l)).head → HeadFits h
     head_kept h e =
         let f = going c l (none zero) in
-        subst HeadFits (sym e) (head_fits _ (apply_facts c (screen_of l) f.in-range f.start.valid.screen).head)
+        subst HeadFits (sym e) (head_fits _ (apply_facts c (screen_of l) f.is_in_range f.start.valid.screen).head)
 
     -- a call that changes rows
     module _ (old m : List ℕ) (copy : old ≡ l) (h : Head) (left : Leaves (apply c (screen_of l)) l m h) where

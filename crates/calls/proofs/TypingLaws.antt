@@ -38,12 +38,12 @@ module _ (ch limit : ℕ) where
 
   module _ (l : List ℕ) (o k : ℕ) (io : o ≡ refused_with (first_of ((3, limited_ok ch limit) ∷ []))) (is : k ≡ change_answer true o l)
       (zero : k ≡ 0) where
-    in-range : limited_ok ch limit ≡ true
-    in-range = range_known _ true l o k io is zero
+    is_in_range : limited_ok ch limit ≡ true
+    is_in_range = range_known _ true l o k io is zero
 
     pub typed_fits : Fits w8 ch
     unfolding limited_ok
-    typed_fits = byte_fits ch (and_right (leb 1 limit && leb limit MAX-LOGICAL) _ in-range)
+    typed_fits = byte_fits ch (and_right (leb 1 limit && leb limit MAX-LOGICAL) _ is_in_range)
 
     pub typed_most : limit ≤ MAX-LOGICAL
-    typed_most = limit_most ch limit in-range
+    typed_most = limit_most ch limit is_in_range

@@ -41,16 +41,16 @@ module _ (few fits : Bool) (n : ℕ) (is : n ≡ refused_with (first_of ((3, few
       go false ne = refl
 
   module _ (none : n ≡ 0) where
-    in-range : few ≡ true
-    in-range = range_tested few (sym is ∙ none)
+    is_in_range : few ≡ true
+    is_in_range = range_tested few (sym is ∙ none)
 
     pub waiting_short : fits ≡ true → 0 ≡ refused_with (first_of ((3, few) ∷ (7, fits) ∷ []))
     unfolding first_of refused_with
-    waiting_short e = rw (in-range, e)
+    waiting_short e = rw (is_in_range, e)
 
     pub waiting_long : fits ≡ false → refused 7 ≡ refused_with (first_of ((3, few) ∷ (7, fits) ∷ []))
     unfolding first_of refused_with
-    waiting_long e = rw (in-range, e)
+    waiting_long e = rw (is_in_range, e)
 
 -- ---- `print_waiting`: o is what its own refusals answer, and k what `change_refused` has answered
 

@@ -16,7 +16,7 @@ use Rattle.grid.specs.Record.{row_of, rows_of, screen_of}
 use Rattle.grid.specs.Facts.{ScreenFacts, Valid}
 use Rattle.octets.proofs.Bools.{and_left, and_right, cases}
 use Rattle.octets.proofs.NumberLaws.{is_byte_lt}
-use Rattle.grid.proofs.Keep.{row-at}
+use Rattle.grid.proofs.Keep.{row_at_facts}
 use Rattle.grid.proofs.RowLaws.{get_d_rows, char_read, attr_read}
 use Rattle.grid.proofs.Trim.{trim_le}
 use Rattle.line.proofs.KeptLine.{line_fits}
@@ -27,8 +27,8 @@ use Rattle.editor.specs.Outcome.TextCall.{LogicalText, Snapshot}
 
 -- ---- texts
 
-row-text : (w : ℕ) (x : Row) → length (trim_by is_white (take w x.chars)) ≤ w
-row-text w x =
+row_text_fits : (w : ℕ) (x : Row) → length (trim_by is_white (take w x.chars)) ≤ w
+row_text_fits w x =
     let cut : length (take w x.chars) ≤ w = simp length-take (omega arith) in
     omega (arith, trim_le is_white (take w x.chars))
 
@@ -43,7 +43,7 @@ unfolding join_lines row_texts
 lines_fit w [] h = omega arith
 lines_fit w (x ∷ rows) h =
     let most = lines_fit w rows h in
-    let here = row-text w x in
+    let here = row_text_fits w x in
     cases (λ (cs : List ℕ). length cs ≤ 81 * length (x ∷ rows) - 1) (is_empty (join_lines (row_texts w rows))) _ _ (λ e. omega arith)
     (λ e. simp length-append (omega (arith, some_length _ e)))
 
@@ -80,4 +80,4 @@ module _ (l : List ℕ) (v : Valid l) (bytes : every is_byte l ≡ true) where
       let ch = is_byte_lt l (CHARS + 80 * r + c) bytes (omega (arith, v)) in
       let at = is_byte_lt l (ATTRS + 80 * r + c) bytes (omega (arith, v)) in
       rw here (omega (arith, char_read l r c (omega (arith, v)), attr_read l r c (omega (arith, v))))
-  value_fits (AskContinues r) i = let row = leb-true r 24 i in omega (arith, row-at r (omega arith) v.screen.rows)
+  value_fits (AskContinues r) i = let row = leb-true r 24 i in omega (arith, row_at_facts r (omega arith) v.screen.rows)

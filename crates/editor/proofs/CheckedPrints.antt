@@ -71,7 +71,7 @@ all_unsplit (bs ∷ inputs) t f e =
     let c : Call = PrintChecked bs in
     let a = all_accepted c (in_turn inputs) (state_bytes t) e in
     let p = change_accepted c t f a.0 in
-    and_both (not (splits t.screen bs)) _ (and_left (not (splits t.screen bs)) true p.in-range)
+    and_both (not (splits t.screen bs)) _ (and_left (not (splits t.screen bs)) true p.is_in_range)
     (all_unsplit inputs (step c t) p.facts (rw p.left at a.1))
 
 module _ (inputs : List (List ℕ)) (t : State) (f : StateFacts t) (e : accepted (state_bytes t) (in_turn inputs) ≡ in_turn inputs) where
@@ -108,7 +108,7 @@ pub checked_prints : CheckedPrints
 checked_prints =
     record {
       as_print = as_print;
-      in-turn = λ inputs l b v e.
+      each_in_turn = λ inputs l b v e.
           let w = conditions_record l v in
           let t : State = read_state l in
           let f = state_of l w b in

@@ -20,8 +20,8 @@ use Rattle.editor.specs.Waiting.{taken}
 use Rattle.editor.specs.Modes.{set_width, set_keys_on}
 use Rattle.line.proofs.Kept.{Kept}
 use Rattle.editor.proofs.KeptPrint.{printed}
-use Rattle.editor.proofs.KeptTyping.{type-char, delete-char, back_space, erase-to-end, escape-line, tabbed, ctrl-enter, take_line, break-line}
-use Rattle.editor.proofs.KeptMotion.{KeptModes, valid_modes, here, moved, homed, clamped, word-left, word-right, end-of-line, cleared, width_set, keys_set}
+use Rattle.editor.proofs.KeptTyping.{type_char_kept, delete_char_kept, back_space, erase_to_end_kept, escape_line_kept, tabbed, ctrl_enter_kept, take_line, break_line_kept}
+use Rattle.editor.proofs.KeptMotion.{KeptModes, valid_modes, here, moved, homed, clamped, word_left_kept, word_right_kept, end_of_line_kept, cleared, width_set, keys_set}
 use Rattle.octets.specs.Refusals.{all_pass}
 use Rattle.octets.proofs.Bools.{and_left, and_right, either}
 use Rattle.grid.proofs.Validity.{with_cr_facts}
@@ -44,24 +44,24 @@ module _ {P : Screen → Type 0} (m : KeptModes P) where
   apply_kept (PrintBytes bs) s r p wide keys = printed k bs false s p
   apply_kept (PrintChecked bs) s r p wide keys = printed k bs false s p
   apply_kept (PrintWaiting bs rows) s r p wide keys = printed k (taken s rows bs) false s p
-  apply_kept (TypeChar ch) s r p wide keys = type-char k MAX-LOGICAL s ch (omega arith) p
-  apply_kept (TypeLimited ch limit) s r p wide keys = type-char k limit s ch (limit_most ch limit (and_left _ true r)) p
+  apply_kept (TypeChar ch) s r p wide keys = type_char_kept k MAX-LOGICAL s ch (omega arith) p
+  apply_kept (TypeLimited ch limit) s r p wide keys = type_char_kept k limit s ch (limit_most ch limit (and_left _ true r)) p
   apply_kept Backspace s r p wide keys = back_space k s p
-  apply_kept DeleteChar s r p wide keys = delete-char k s p
-  apply_kept EraseToEnd s r p wide keys = erase-to-end k s p
-  apply_kept EscapeLine s r p wide keys = escape-line k s p
+  apply_kept DeleteChar s r p wide keys = delete_char_kept k s p
+  apply_kept EraseToEnd s r p wide keys = erase_to_end_kept k s p
+  apply_kept EscapeLine s r p wide keys = escape_line_kept k s p
   apply_kept Tab s r p wide keys = tabbed k s p
-  apply_kept CtrlEnter s r p wide keys = ctrl-enter k s p
+  apply_kept CtrlEnter s r p wide keys = ctrl_enter_kept k s p
   apply_kept (TakeLogicalLine out) s r p wide keys = take_line k s p
-  apply_kept BreakLine s r p wide keys = break-line k s p
+  apply_kept BreakLine s r p wide keys = break_line_kept k s p
   apply_kept MoveLeft s r p wide keys = moved k s p _ (left_inside _ _ _ (here k s p))
   apply_kept MoveRight s r p wide keys = moved k s p _ (right_inside _ _ _ (here k s p))
   apply_kept MoveUp s r p wide keys = moved k s p _ (up_inside _ _ _ (here k s p))
   apply_kept MoveDown s r p wide keys = moved k s p _ (down_inside _ _ _ (here k s p))
   apply_kept Home s r p wide keys = homed k s p
-  apply_kept WordLeft s r p wide keys = word-left k s p
-  apply_kept WordRight s r p wide keys = word-right k s p
-  apply_kept EndOfLine s r p wide keys = end-of-line k s p
+  apply_kept WordLeft s r p wide keys = word_left_kept k s p
+  apply_kept WordRight s r p wide keys = word_right_kept k s p
+  apply_kept EndOfLine s r p wide keys = end_of_line_kept k s p
   apply_kept Clear s r p wide keys = cleared k s p
   apply_kept (SetWidth w) s r p wide keys = wide w refl
   apply_kept (SetCursor y x) s r p wide keys = clamped k s p (at y x)

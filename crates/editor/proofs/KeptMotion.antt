@@ -15,7 +15,7 @@ use Rattle.octets.proofs.Bools.{cases, either}
 use Rattle.grid.proofs.Validity.{head_is, editable_from}
 use Rattle.octets.proofs.WidthLaws.{width_from, width_to}
 use Rattle.values.proofs.CursorLaws.{Inside, clamp_inside}
-use Rattle.grid.proofs.Keep.{rows_replicate, blank-row, edited_top, blank_of}
+use Rattle.grid.proofs.Keep.{rows_replicate, blank_row_valid, edited_top, blank_of}
 use Rattle.editor.specs.Words.{place, cell_of, back_to_word, word_start, word_left, word_right, word_at}
 use Rattle.editor.specs.Motion.{end_of_line}
 use Rattle.editor.specs.Modes.{clear, set_width, set_insert, set_attr, set_keys_on}
@@ -29,15 +29,15 @@ place_inside w e i h l = record { row = (div-lt_iff_lt-mul h).1 l; col = mod-lt 
 
 -- ---- words
 
-back-to-word : (s : Screen) (i : ℕ) → back_to_word s i ≤ i
+back_to_word_most : (s : Screen) (i : ℕ) → back_to_word s i ≤ i
 unfolding back_to_word
-back-to-word s zero = omega arith
-back-to-word s (suc i) = let h = back-to-word s i in either (λ (x : ℕ). x ≤ suc i) (word_at s (suc i)) _ _ (omega arith) (omega arith)
+back_to_word_most s zero = omega arith
+back_to_word_most s (suc i) = let h = back_to_word_most s i in either (λ (x : ℕ). x ≤ suc i) (word_at s (suc i)) _ _ (omega arith) (omega arith)
 
-word-start : (s : Screen) (i : ℕ) → word_start s i ≤ i
+word_start_most : (s : Screen) (i : ℕ) → word_start s i ≤ i
 unfolding word_start
-word-start s zero = omega arith
-word-start s (suc i) = let h = word-start s i in either (λ (x : ℕ). x ≤ suc i) (word_at s i) _ _ (omega arith) (omega arith)
+word_start_most s zero = omega arith
+word_start_most s (suc i) = let h = word_start_most s i in either (λ (x : ℕ). x ≤ suc i) (word_at s i) _ _ (omega arith) (omega arith)
 
 -- ---- the screen
 
@@ -61,20 +61,20 @@ module _ {P : Screen → Type 0} (k : Kept P) (s : Screen) (p : P s) where
   unfolding cell_of
   cell_lt = omega (arith, f, mul-le-mul_right s.head.width f.head.row)
 
-  pub word-left : P (word_left s)
+  pub word_left_kept : P (word_left s)
   unfolding word_left
-  word-left =
+  word_left_kept =
       let l = cell_lt in
       let i : ℕ = back_to_word s (cell_of s - 1) in
-      either P _ _ _ p (moved _ (place_inside _ _ _ (omega (arith, f)) (omega (arith, back-to-word s (cell_of s - 1), word-start s i))))
+      either P _ _ _ p (moved _ (place_inside _ _ _ (omega (arith, f)) (omega (arith, back_to_word_most s (cell_of s - 1), word_start_most s i))))
 
-  pub word-right : P (word_right s)
+  pub word_right_kept : P (word_right s)
   unfolding word_right
-  word-right = let l = cell_lt in moved _ (place_inside _ _ _ (omega (arith, f)) (omega arith))
+  word_right_kept = let l = cell_lt in moved _ (place_inside _ _ _ (omega (arith, f)) (omega arith))
 
-  pub end-of-line : P (end_of_line s)
+  pub end_of_line_kept : P (end_of_line s)
   unfolding end_of_line
-  end-of-line =
+  end_of_line_kept =
       moved _
       (cases (Inside s.head.width (editable s.head.keys)) _ _ _ (λ e. record { row = ltb-true _ _ e; col = mod-lt _ (omega (arith, f)) })
       (λ e. omega (arith, f)))
@@ -111,7 +111,7 @@ module _ (s : Screen) (f : ScreenFacts s) where
   width_set w c =
       record {
         head = head_is _ c (omega arith) (omega (arith, width_from w c)) (omega arith) f.head.cr f.head.keys f.head.foreground f.head.background;
-        rows = rows_replicate w 25 _ (blank-row w _ (width_to w c));
+        rows = rows_replicate w 25 _ (blank_row_valid w _ (width_to w c));
       }
 
   pub keys_set : (v : ℕ) → v ≤ 1 → ScreenFacts (set_keys_on v s)

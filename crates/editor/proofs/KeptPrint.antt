@@ -15,7 +15,7 @@ use Rattle.values.specs.Cursor.{at}
 use Rattle.values.specs.declared.attr.Attr.{Attr}
 use Rattle.octets.proofs.Bools.{cases, either, every_set}
 use Rattle.grid.proofs.Validity.{row_valid}
-use Rattle.grid.proofs.Keep.{rows_take, rows_drop, rows_append, rows_count, rows_replicate, row-at, edited_set, edited_flag, edited_top, blank_of}
+use Rattle.grid.proofs.Keep.{rows_take, rows_drop, rows_append, rows_count, rows_replicate, row_at_facts, edited_set, edited_flag, edited_top, blank_of}
 use Rattle.line.proofs.Kept.{Kept}
 use Rattle.editor.specs.Print.{Advanced, still, scroll, next_row, newline, write_cell, put_char, print_byte, print}
 
@@ -43,9 +43,9 @@ module _ {P : Screen → Type 0} (k : Kept P) where
       let top = rows_append (rows_drop 1 (rows_take e f.rows)) (rows_replicate _ 1 _ (blank_of s f)) in
       k.edit s _ p (rw append_snoc at (edited_top f.rows _ f.head.edit_to (rows_count e (omega arith) top)))
 
-  pub next-row : (s : Screen) → P s → P (next_row s).screen
+  pub next_row_kept : (s : Screen) → P s → P (next_row s).screen
   unfolding next_row scroll with_rows
-  next-row s p =
+  next_row_kept s p =
       let f = k.facts s p in
       cases Q (ltb (s.head.cursor.row + 1) (editable s.head.keys)) _ _ (λ e. k.move s _ p (ltb-true _ _ e) (omega arith)) (λ e. k.move (scroll s) _ (scroll_kept s p) (omega arith) (omega arith))
 
@@ -53,18 +53,18 @@ module _ {P : Screen → Type 0} (k : Kept P) where
   unfolding newline
   new_line s p =
       let f = k.facts s p in
-      either Q _ _ _ (k.edit s _ p (edited_flag f.rows (s.head.cursor.row - 1) 0 (omega arith) f.head.edit_to (omega arith))) (next-row s p)
+      either Q _ _ _ (k.edit s _ p (edited_flag f.rows (s.head.cursor.row - 1) 0 (omega arith) f.head.edit_to (omega arith))) (next_row_kept s p)
 
   module _ (s : Screen) (ch : ℕ) (v : printable ch ≡ true) (p : P s) where
     written : P (write_cell s ch)
     unfolding write_cell
     written =
         let f = k.facts s p in
-        k.edit s _ p (edited_set f.rows _ _ f.head.row (row_valid _ _ (cell_row _ _ ch _ _ f.head.col v (row-at _ (omega arith) f.rows))))
+        k.edit s _ p (edited_set f.rows _ _ f.head.row (row_valid _ _ (cell_row _ _ ch _ _ f.head.col v (row_at_facts _ (omega arith) f.rows))))
 
-    pub put-char : P (put_char s ch).screen
+    pub put_char_kept : P (put_char s ch).screen
     unfolding put_char write_cell with_rows
-    put-char =
+    put_char_kept =
         let f = k.facts s p in
         let g = k.facts (write_cell s ch) written in
         let r : ℕ = s.head.cursor.row in
@@ -72,16 +72,16 @@ module _ {P : Screen → Type 0} (k : Kept P) where
         let u : Screen = write_cell s ch in
         cases Q (ltb (c + 1) s.head.width) (still (move_to u (at r (c + 1)))) (next_row (with_rows u (set_flag u.rows r 1)))
         (λ e. k.move (write_cell s ch) _ written f.head.row (ltb-true _ _ e))
-        (λ e. next-row _ (k.edit (write_cell s ch) _ written (edited_flag g.rows _ 1 f.head.row f.head.edit_to (omega arith))))
+        (λ e. next_row_kept _ (k.edit (write_cell s ch) _ written (edited_flag g.rows _ 1 f.head.row f.head.edit_to (omega arith))))
 
-  pub print-byte : (cr : Bool) (s : Screen) (b : ℕ) → P s → P (print_byte cr s b).screen
+  pub print_byte_kept : (cr : Bool) (s : Screen) (b : ℕ) → P s → P (print_byte cr s b).screen
   unfolding print_byte
-  print-byte cr s b p =
+  print_byte_kept cr s b p =
       let line = new_line s p in
       either Q (eqb b 13) (newline s) _ line
-      (either Q (eqb b 10) _ _ (either Q cr (still s) (newline s) p line) (cases Q (printable b) (put_char s b) (still s) (λ v. put-char s b v p) (λ e. p)))
+      (either Q (eqb b 10) _ _ (either Q cr (still s) (newline s) p line) (cases Q (printable b) (put_char s b) (still s) (λ v. put_char_kept s b v p) (λ e. p)))
 
   pub printed : (bs : List ℕ) (cr : Bool) (s : Screen) → P s → P (print cr s bs).screen
   unfolding print
   printed [] cr s p = p
-  printed (b ∷ bs) cr s p = printed bs (eqb b 13) (print_byte cr s b).screen (print-byte cr s b p)
+  printed (b ∷ bs) cr s p = printed bs (eqb b 13) (print_byte cr s b).screen (print_byte_kept cr s b p)

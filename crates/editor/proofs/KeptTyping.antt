@@ -20,7 +20,7 @@ use Rattle.editor.specs.Tab
 use Rattle.editor.specs.Tab.{type_spaces, next_stop, tab}
 use Rattle.line.proofs.Kept.{Kept}
 use Rattle.line.proofs.KeptLine.{SpanFacts, span, TextFacts, content_text, respliced, spliced}
-use Rattle.editor.proofs.KeptPrint.{next-row}
+use Rattle.editor.proofs.KeptPrint.{next_row_kept}
 use Rattle.line.specs.Splice.{without_rows}
 use Rattle.values.specs.declared.cursor.Cursor.{Cursor}
 
@@ -71,30 +71,30 @@ module _ {P : Screen → Type 0} (k : Kept P) where
       (cases P _ _ _ (λ e. spliced k s _ _ p (text_set t ch v (ltb-true _ _ e)))
       (λ e. cases P _ _ _ (λ e. p) (λ e. spliced k s _ _ p (text_add t ch v (omega (arith, leb-false limit (length cs) e))))))
 
-  pub type-char : (limit : ℕ) (s : Screen) (ch : ℕ) → limit ≤ MAX-LOGICAL → P s → P (type_limited limit s ch)
+  pub type_char_kept : (limit : ℕ) (s : Screen) (ch : ℕ) → limit ≤ MAX-LOGICAL → P s → P (type_limited limit s ch)
   unfolding type_limited
-  type-char limit s ch most p = cases P _ _ _ (λ v. type_at limit s _ _ ch most p (content_text s (k.facts s p)) v) (λ e. p)
+  type_char_kept limit s ch most p = cases P _ _ _ (λ v. type_at limit s _ _ ch most p (content_text s (k.facts s p)) v) (λ e. p)
 
-  type-spaces : (n : ℕ) (s : Screen) → P s → P (type_spaces n s)
+  type_spaces_kept : (n : ℕ) (s : Screen) → P s → P (type_spaces n s)
   unfolding type_spaces
-  type-spaces zero s p = p
-  type-spaces (suc n) s p = let t = type-char MAX-LOGICAL s 32 (omega arith) p in either P _ _ _ t (type-spaces n (type_limited MAX-LOGICAL s 32) t)
+  type_spaces_kept zero s p = p
+  type_spaces_kept (suc n) s p = let t = type_char_kept MAX-LOGICAL s 32 (omega arith) p in either P _ _ _ t (type_spaces_kept n (type_limited MAX-LOGICAL s 32) t)
 
   module _ (s : Screen) (p : P s) where
     text : TextFacts (content s) (index s)
     text = content_text s (k.facts s p)
 
-    pub delete-char : P (delete_char s)
+    pub delete_char_kept : P (delete_char s)
     unfolding delete_char
-    delete-char = either P _ _ _ (spliced k s _ _ p (text_cut text (index s) (index s + 1) (omega arith) (omega arith))) p
+    delete_char_kept = either P _ _ _ (spliced k s _ _ p (text_cut text (index s) (index s + 1) (omega arith) (omega arith))) p
 
     pub back_space : P (backspace s)
     unfolding backspace
-    back_space = either P _ _ _ delete-char (spliced k s _ _ p (text_cut text (index s - 1) (index s) (omega arith) (omega arith)))
+    back_space = either P _ _ _ delete_char_kept (spliced k s _ _ p (text_cut text (index s - 1) (index s) (omega arith) (omega arith)))
 
-    pub erase-to-end : P (erase_to_end s)
+    pub erase_to_end_kept : P (erase_to_end s)
     unfolding erase_to_end
-    erase-to-end = spliced k s _ _ p (text_keep text)
+    erase_to_end_kept = spliced k s _ _ p (text_keep text)
 
     -- ---- line keys
 
@@ -104,24 +104,24 @@ module _ {P : Screen → Type 0} (k : Kept P) where
     under : SpanFacts s s.head.cursor.row
     under = span s s.head.cursor.row f.head.row
 
-    pub escape-line : P (escape_line s)
+    pub escape_line_kept : P (escape_line s)
     unfolding escape_line without_rows with_rows every
-    escape-line =
+    escape_line_kept =
         let b : start_of s s.head.cursor.row < editable s.head.keys = omega (arith, under, f) in
         k.move _ _ (k.edit s _ p (respliced s _ _ 0 [] f (record { count = refl; valid = refl }) b (omega arith))) b (omega (arith, f))
 
     pub tabbed : P (tab s)
     unfolding tab Tab.tabbed
     tabbed =
-        either P (eqb s.head.insert 1) _ _ (type-spaces _ s p)
+        either P (eqb s.head.insert 1) _ _ (type_spaces_kept _ s p)
         (cases (λ (c : Cursor). P (move_to s c)) (ltb (next_stop s.head.cursor.col) s.head.width) _ _ (λ e. k.move s _ p f.head.row (ltb-true _ _ e))
         (λ e.
         cases (λ (c : Cursor). P (move_to s c)) (ltb (s.head.cursor.row + 1) (editable s.head.keys)) _ _ (λ e. k.move s _ p (ltb-true _ _ e) (omega (arith, f)))
         (λ e. k.move s _ p f.head.row f.head.col)))
 
-    pub ctrl-enter : P (ctrl_enter s)
+    pub ctrl_enter_kept : P (ctrl_enter s)
     unfolding ctrl_enter with_rows
-    ctrl-enter =
+    ctrl_enter_kept =
         cases P (leb (editable s.head.keys) (s.head.cursor.row + 1)) _ _ (λ e. p)
         (λ e. either P (too_long s) _ _ p
         (k.move _ _ (k.edit s _ p (edited_flag f.rows _ 1 f.head.row f.head.edit_to (omega arith))) (leb-false _ _ e) (omega (arith, f))))
@@ -130,8 +130,8 @@ module _ {P : Screen → Type 0} (k : Kept P) where
     unfolding take_logical_line
     take_line =
         either P _ _ _ (k.edit s _ p (edited_flag f.rows _ 0 (omega (arith, under)) f.head.edit_to (omega arith)))
-        (next-row k _ (k.move s _ p (omega (arith, under)) (omega (arith, f))))
+        (next_row_kept k _ (k.move s _ p (omega (arith, under)) (omega (arith, f))))
 
-    pub break-line : P (break_line s)
+    pub break_line_kept : P (break_line s)
     unfolding break_line
-    break-line = next-row k s p
+    break_line_kept = next_row_kept k s p

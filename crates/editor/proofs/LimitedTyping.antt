@@ -32,7 +32,7 @@ use Rattle.editor.specs.LimitedTyping.{LimitedTyping}
 use Rattle.editor.proofs.KeptTyping.{text_insert, text_set, text_add}
 use Rattle.editor.proofs.KeptCall.{limit_most}
 use Rattle.editor.proofs.Refusals.{change_none, going}
-use Rattle.editor.proofs.Lists.{change_refused, screen-left}
+use Rattle.editor.proofs.Lists.{change_refused, screen_left_is}
 
 -- ---- on screens
 
@@ -171,11 +171,11 @@ module _ (ch limit : ℕ) (l : List ℕ) where
   module _ (b : every is_byte l ≡ true) (v : ValidRecord l) where
     left : is_refusal (changing (TypeLimited ch limit) l).number ≡ false
         → screen_of (changing (TypeLimited ch limit) l).rec ≡ with_bit (type_limited limit (screen_of l) ch) 0
-    left e = screen-left (TypeLimited ch limit) l b v e ∙ after_typed ch limit (screen_of l)
+    left e = screen_left_is (TypeLimited ch limit) l b v e ∙ after_typed ch limit (screen_of l)
 
     most_taken : is_refusal (changing (TypeLimited ch limit) l).number ≡ false → limit ≤ MAX-LOGICAL
     unfolding in_range own rule all_pass
-    most_taken e = limit_most ch limit (and_left _ true (going (TypeLimited ch limit) l (change_none (TypeLimited ch limit) l (is_accepted _ e))).in-range)
+    most_taken e = limit_most ch limit (and_left _ true (going (TypeLimited ch limit) l (change_none (TypeLimited ch limit) l (is_accepted _ e))).is_in_range)
 
     cursor_tells : is_refusal (changing (TypeLimited ch limit) l).number ≡ false → printable ch ≡ true → let s = screen_of l in
         (screen_of (changing (TypeLimited ch limit) l).rec).head.cursor ≡ s.head.cursor

@@ -27,9 +27,9 @@ use Rattle.editor.specs.Call.{Call, in_range, after_call, step}
 use Rattle.editor.specs.Outcome.{LAST-SERIAL, Outcome, changing}
 use Rattle.editor.proofs.KeptCall.{after_facts}
 use Rattle.editor.proofs.Refusals.{changing_answers, change_none, going}
-use Rattle.octets.proofs.Found.{is_accepted, is-refused}
+use Rattle.octets.proofs.Found.{is_accepted, refusal_from}
 use Rattle.std.specs.Prelude.{if◌then◌else◌}
-use Rattle.grid.proofs.Keep.{new-screen}
+use Rattle.grid.proofs.Keep.{new_screen_facts}
 use Rattle.editor.specs.Lists.{steps, accepted, screen_left, record_left}
 
 -- the mask of touched rows
@@ -50,10 +50,10 @@ module _ (c : Call) (t : State) (f : StateFacts t) where
 -- ---- one call
 
 pub change_refused : (c : Call) (l : List ℕ) → is_refusal (changing c l).number ≡ true → (changing c l).rec ≡ l
-change_refused c l r = ((changing_answers c l).kept (is-refused _ r)).0
+change_refused c l r = ((changing_answers c l).kept (refusal_from _ r)).0
 
 pub record Changed (c : Call) (t : State) : Type 0 where
-  pub in-range : in_range c t.screen ≡ true
+  pub is_in_range : in_range c t.screen ≡ true
   pub left : (changing c (state_bytes t)).rec ≡ state_bytes (step c t)
   pub facts : StateFacts (step c t)
 
@@ -63,10 +63,10 @@ change_accepted c t f r =
     let h = is_accepted _ r in
     let g = going c (state_bytes t) (change_none c (state_bytes t) h) in
     let back = state_back t f in
-    let range : in_range c t.screen ≡ true = ap (λ (x : State). in_range c x.screen) (sym back) ∙ g.in-range in
+    let range : in_range c t.screen ≡ true = ap (λ (x : State). in_range c x.screen) (sym back) ∙ g.is_in_range in
     let serial : t.stamp.pair.serial ≢ LAST-SERIAL = λ q. g.serial (ap (λ (p : Pair). p.serial) (pair_back t f) ∙ q) in
     record {
-      in-range = range;
+      is_in_range = range;
       left = ap (λ (o : Outcome). o.rec) ((changing_answers c (state_bytes t)).done h) ∙ ap (λ (x : State). state_bytes (step c x)) back;
       facts = state_step c t f range (omega (arith, f));
     }
@@ -106,10 +106,10 @@ unfolding step next_pair read_state stamp_of
 pair_kept c l b v e = let p = stepped c l b v e in ap pair_of p.left ∙ pair_back _ p.facts
 
 -- and the screen that the rules give
-pub screen-left : (c : Call) (l : List ℕ) → every is_byte l ≡ true → ValidRecord l → is_refusal (changing c l).number ≡ false
+pub screen_left_is : (c : Call) (l : List ℕ) → every is_byte l ≡ true → ValidRecord l → is_refusal (changing c l).number ≡ false
     → screen_of (changing c l).rec ≡ after_call c (screen_of l)
 unfolding step read_state
-screen-left c l b v e = let p = stepped c l b v e in ap screen_of p.left ∙ ap (λ (x : State). x.screen) (state_back _ p.facts)
+screen_left_is c l b v e = let p = stepped c l b v e in ap screen_of p.left ∙ ap (λ (x : State). x.screen) (state_back _ p.facts)
 
 -- ---- accepted calls, from any state
 
@@ -172,7 +172,7 @@ calls_facts (suc m) (c ∷ cs) t f =
 
 pub new_facts : (w sitting : ℕ) → sitting < SERIALS → StateFacts (new_state w sitting)
 unfolding new_state
-new_facts w sitting h = record { pair = record { sitting = h; serial = omega arith }; touched = omega arith; screen = screen_valid _ (new-screen w) }
+new_facts w sitting h = record { pair = record { sitting = h; serial = omega arith }; touched = omega arith; screen = screen_valid _ (new_screen_facts w) }
 
 -- ---- calls that are all accepted
 

@@ -33,7 +33,7 @@ use Rattle.editor.specs.Given.{Advances, Runs}
 use Rattle.editor.specs.Lines.{break_line}
 use Rattle.editor.specs.Call.{PrintBytes, BreakLine, rule, apply, last_cr}
 use Rattle.line.proofs.Kept.{valid_kept}
-use Rattle.editor.proofs.KeptPrint.{print-byte, printed}
+use Rattle.editor.proofs.KeptPrint.{print_byte_kept, printed}
 use Rattle.editor.proofs.PrintParts.{after, follows, byte_only, print_next, print_more, last_next}
 use Rattle.editor.proofs.Taken.{bytes_most}
 
@@ -248,7 +248,7 @@ module _ (start : Bool) (bs l : List ℕ) (h₀ : Head) where
           to = omega arith;
           size = q.becomes.size;
           front = q.becomes.front ∙ p.front;
-          screen = rw is (print-byte valid_kept cr here b p.screen);
+          screen = rw is (print_byte_kept valid_kept cr here b p.screen);
           done = is ∙ ap (λ (a : Advanced). a.screen) one;
           count = ap₂ (λ (x y : ℕ). x + y) p.count q.scrolls ∙ ap (λ (a : Advanced). a.scrolls) one;
           last = sym (last_next bs i lt start);

@@ -38,7 +38,7 @@ use Rattle.editor.specs.Refusals.TextRefused.{record_length as text-length, outp
 use Rattle.editor.proofs.Taken.{taken_to, taken_most}
 use Rattle.editor.proofs.Answers.{text_fits, room_most, value_fits}
 use Rattle.octets.specs.Refusals.{order, place_in, first_of, all_pass}
-use Rattle.octets.proofs.Found.{Fails, First, Found, found, found_none, ordered, answered, fails_left, fails_right, first_split, none_first, none_fails, all-pass, pass_append}
+use Rattle.octets.proofs.Found.{Fails, First, Found, found, found_none, ordered, answered, fails_left, fails_right, first_split, none_first, none_fails, all_passed, pass_append}
 use Rattle.octets.proofs.Found.Fails.{here, there}
 use Rattle.octets.proofs.Found.First.{now, later}
 use Rattle.grid.specs.Refusals.{record_tests}
@@ -178,7 +178,7 @@ argument_fails (width n m) = here ((not-eq-not {b = false}).0 (λ t. ⊎_elim n 
 
 pub record Going (c : Call) (l : List ℕ) : Type 0 where
   pub start : Taken (lengths c) l
-  pub in-range : in_range c (screen_of l) ≡ true
+  pub is_in_range : in_range c (screen_of l) ≡ true
   pub serial : serial_of l ≢ LAST-SERIAL
 
 pub going : (c : Call) (l : List ℕ) → first_of (change_tests c l) ≡ 0 → Going c l
@@ -192,8 +192,8 @@ going c l e =
     sym (pass_append mine (serial_tests l)) ∙ and_right (all_pass first) (all_pass (mine ++ serial_tests l)) parts in
     let start = and_left (all_pass first) (all_pass (mine ++ serial_tests l)) parts in
     record {
-      start = tests_taken (lengths c) l start (all-pass first start);
-      in-range = and_left (all_pass mine) (all_pass (serial_tests l)) late;
+      start = tests_taken (lengths c) l start (all_passed first start);
+      is_in_range = and_left (all_pass mine) (all_pass (serial_tests l)) late;
       serial = λ q.
           true≢false
           (sym (and_left (not (eqb (serial_of l) LAST-SERIAL)) true (and_right (all_pass mine) (all_pass (serial_tests l)) late))
@@ -236,7 +236,7 @@ module _ (c : Call) (l : List ℕ) where
       answered (λ (o : Outcome). o.number) change_found
       (record { number = answer c (screen_of l); rec = state_bytes (step c (read_state l)); out = over text (output c) })
       (record { number = refused (first_of (change_tests c l)); rec = l; out = output c })
-      (λ e. (tells c).small (screen_of l) (going c l e).in-range) refl in
+      (λ e. (tells c).small (screen_of l) (going c l e).is_in_range) refl in
       record {
         number = a.refuses;
         kept = λ h. (ap (λ (o : Outcome). o.rec) (a.kept h), ap (λ (o : Outcome). o.out) (a.kept h));
@@ -316,7 +316,7 @@ module _ (q : Query) (l : List ℕ) where
       let all : all_pass (record_tests true l ++ one) ≡ true = none_fails 0 (query_tests q l) query_ordered e in
       let parts : all_pass (record_tests true l) && all_pass one ≡ true = sym (pass_append (record_tests true l) one) ∙ all in
       let start = and_left (all_pass (record_tests true l)) (all_pass one) parts in (
-        tests_taken true l start (all-pass (record_tests true l) start),
+        tests_taken true l start (all_passed (record_tests true l) start),
         and_left (inside q (screen_of l)) true (and_right (all_pass (record_tests true l)) (all_pass one) parts),
       )
 

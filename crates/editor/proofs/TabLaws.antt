@@ -19,7 +19,7 @@ use Rattle.grid.specs.declared.head.Head.{Head}
 use Rattle.octets.proofs.Bools.{pick, skip, picked, skipped}
 use Rattle.grid.proofs.Validity.{head_fits}
 use Rattle.grid.proofs.HeadLaws.{head_whole}
-use Rattle.grid.proofs.Record.{rows-bytes}
+use Rattle.grid.proofs.Record.{rows_bytes_of}
 use Rattle.octets.proofs.NumberLaws.{whole4}
 use Rattle.grid.proofs.Bytes.{rows_back}
 use Rattle.line.specs.Given.{Known}
@@ -40,7 +40,7 @@ module _ (h : Head) (s : Stamp) (m n : List ℕ) (f : HeadFacts h) (rows : RowsF
   head_back rest = head_whole h f
 
   whole : n ≡ front_bytes h s ++ rows_bytes (rows_of m)
-  whole = is ∙ ap (λ (x : List ℕ). front_bytes h s ++ x) (sym (rows-bytes m len))
+  whole = is ∙ ap (λ (x : List ℕ). front_bytes h s ++ x) (sym (rows_bytes_of m len))
 
   rows_are : rows_of n ≡ rows_of m
   unfolding front_bytes
@@ -183,9 +183,9 @@ module _ (l : List ℕ) (h : Head) (known : Known l h) where
 
 -- ---- next_stop
 
-pub next-stop : (c t : ℕ) → t ≡ (c / 8 + 1) * 8 → t ≡ next_stop c
+pub next_stop_is : (c t : ℕ) → t ≡ (c / 8 + 1) * 8 → t ≡ next_stop c
 unfolding next_stop
-next-stop c t e = e
+next_stop_is c t e = e
 
 pub after_stop : (c t : ℕ) → t ≡ (c / 8 + 1) * 8 → c < t
 after_stop c t e = omega arith

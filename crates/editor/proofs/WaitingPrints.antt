@@ -47,7 +47,7 @@ module _ (bs : List ℕ) (rows : ℕ) (l : List ℕ) (e : is_refusal (changing (
   unfolding in_range own rule all_pass
   few =
       let h = is_accepted _ e in
-      let r = (going (PrintWaiting bs rows) l (change_none (PrintWaiting bs rows) l h)).in-range in
+      let r = (going (PrintWaiting bs rows) l (change_none (PrintWaiting bs rows) l h)).is_in_range in
       (leb-true rows 1000 (and_left (leb rows 1000) _ r), leb-true (length bs) 65535 (and_left (leb (length bs) 65535) true (and_right (leb rows 1000) _ r)))
 
   number_is : n ≡ scrolls_of s (taken s rows bs) * 65536 + length (taken s rows bs)
@@ -125,17 +125,17 @@ module _ (ends : List ℕ → List Call) (Q : List ℕ → Type 0)
   abbrev calls : List ℕ → List ℕ → List ℕ → List Call
   calls limits l bs = waits limits l bs ++ ends (rest limits l bs)
 
-  in-turn : (limits bs : List ℕ) (t : State) → StateFacts t → Q (rest limits (state_bytes t) bs) → accepted (state_bytes t) (calls limits (state_bytes t) bs) ≡ calls limits (state_bytes t) bs
+  each_in_turn : (limits bs : List ℕ) (t : State) → StateFacts t → Q (rest limits (state_bytes t) bs) → accepted (state_bytes t) (calls limits (state_bytes t) bs) ≡ calls limits (state_bytes t) bs
       → screen_of (record_left (state_bytes t) (calls limits (state_bytes t) bs)) ≡ after_call (PrintBytes bs) t.screen
   unfolding waits rest record_left
-  in-turn [] bs t f q e = end bs t f q e
-  in-turn (rows ∷ limits) bs t f q e =
+  each_in_turn [] bs t f q e = end bs t f q e
+  each_in_turn (rows ∷ limits) bs t f q e =
       let c : Call = PrintWaiting bs rows in
       let r : List ℕ = rest_of rows (state_bytes t) bs in
       let a = all_accepted c (calls limits (changing c (state_bytes t)).rec r) (state_bytes t) e in
       let p = change_accepted c t f a.0 in
       ap (λ (l : List ℕ). screen_of (record_left l (calls limits l r))) p.left
-      ∙ in-turn limits r (step c t) p.facts (subst (λ (l : List ℕ). Q (rest limits l r)) p.left q)
+      ∙ each_in_turn limits r (step c t) p.facts (subst (λ (l : List ℕ). Q (rest limits l r)) p.left q)
       (subst (λ (l : List ℕ). accepted l (calls limits l r) ≡ calls limits l r) p.left a.1)
       ∙ then_rest bs rows t f a.0
 
@@ -161,7 +161,7 @@ module _ (ends : List ℕ → List Call) (Q : List ℕ → Type 0)
         let q' = subst (λ (x : List ℕ). Q (rest limits x bs)) back q in
         let e' = subst (λ (x : List ℕ). accepted x (calls limits x bs) ≡ calls limits x bs) back e in
         subst (λ (x : List ℕ). screen_of (record_left x (calls limits x bs)) ≡ screen_of (changing (PrintBytes bs) x).rec) (sym back)
-        (in-turn limits bs (read_state l) f q' e' ∙ sym (left_by_one bs (read_state l) f (one_left limits bs (read_state l) f q' e')))
+        (each_in_turn limits bs (read_state l) f q' e' ∙ sym (left_by_one bs (read_state l) f (one_left limits bs (read_state l) f q' e')))
 
 -- ---- the promise
 

@@ -25,5 +25,5 @@ pub record CheckedPrints : Type 0 where
   pub as_print : (bs l : List ℕ) → is_refusal (changing (PrintChecked bs) l).number ≡ false → changing (PrintChecked bs) l ≡ changing (PrintBytes bs) l
   -- "checked prints in turn, if accepted, leave the cells, flags and cursor of one print of their inputs together", and with the whole screen the bit: on any
   -- valid record, for any inputs, empty ones among them, if the accepted ones are all of them
-  pub in-turn : (inputs : List (List ℕ)) (l : List ℕ) → every is_byte l ≡ true → ValidRecord l → accepted l (in_turn inputs) ≡ in_turn inputs
+  pub each_in_turn : (inputs : List (List ℕ)) (l : List ℕ) → every is_byte l ≡ true → ValidRecord l → accepted l (in_turn inputs) ≡ in_turn inputs
       → screen_of (record_left l (in_turn inputs)) ≡ screen_of (changing (PrintBytes (together inputs)) l).rec

@@ -18,7 +18,7 @@ use Rattle.grid.specs.Record.{row_of, rows_of, head_of, pair_of, touched_of, scr
 use Rattle.grid.specs.Facts.{RowFacts, RowsFacts, ScreenFacts, StateFacts, Valid}
 use Rattle.octets.proofs.Bools.{and_left, and_right, tests}
 use Rattle.values.proofs.AttrLaws.{byte_back}
-use Rattle.grid.proofs.Record.{rows-bytes, heads_eq}
+use Rattle.grid.proofs.Record.{rows_bytes_of, heads_eq}
 use Rattle.octets.proofs.Tables.{length_tabulate, get_d_tabulate}
 use Rattle.grid.proofs.Validity.{row_facts, screen_facts}
 use Rattle.grid.proofs.HeadLaws.{head_whole, bits_back}
@@ -164,7 +164,7 @@ module _ (l : List ℕ) (v : Valid l) (b : every is_byte l ≡ true) where
       let t = four_bytes l TOUCHED b (omega (arith, v.size)) in
       let a = byte_back (get_or l (HEAD + 5) 0) (byte_at (HEAD + 5) (omega arith)) in
       let bits = bits_back (get_or l (HEAD + 3) 0) v.screen.head.cr in
-      let r = rows-bytes l v.size in
+      let r = rows_bytes_of l v.size in
       let high = sym v.length_high in
       let low = sym v.length_low in
       let version = sym v.version in

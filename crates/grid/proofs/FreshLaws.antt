@@ -17,7 +17,7 @@ use Rattle.grid.specs.declared.head.Head.{Head}
 use Rattle.octets.proofs.Bools.{picked, skipped}
 use Rattle.grid.proofs.RowLaws.{length_rows}
 use Rattle.grid.proofs.Validity.{head_fits}
-use Rattle.grid.proofs.Keep.{new-head}
+use Rattle.grid.proofs.Keep.{new_head_facts}
 use Rattle.grid.proofs.Record.{left_bytes}
 
 pub head_40 : (w : ℕ) → w ≡ 40 → ◌≡◌ {A = Head} (record { width = 40; cursor = home; insert = 0; cr = 0; keys = 1; attr = normal }) (new_head w)
@@ -33,10 +33,10 @@ head_80 w h =
     λ i. record { width = e i; cursor = home; insert = 0; cr = 0; keys = 1; attr = normal }
 
 pub new_width : (w : ℕ) (h : Head) → h ≡ new_head w → h.width ≤ 80
-new_width w h e = rw e (new-head w).width_to
+new_width w h e = rw e (new_head_facts w).width_to
 
 pub new_fits : (w : ℕ) (h : Head) → h ≡ new_head w → HeadFits h
-new_fits w h e = rw e (head_fits (new_head w) (new-head w))
+new_fits w h e = rw e (head_fits (new_head w) (new_head_facts w))
 
 pub new_end : (w sitting : ℕ) (l m n : List ℕ) (h : Head) → h ≡ new_head w → Becomes l m (replicate 25 (blank_row h.width normal) ++ drop 25 (rows_of l))
     → n ≡ front_bytes h (record { pair = record { sitting = sitting; serial = 0 }; touched = 0 }) ++ drop FLAGS m → n ≡ state_bytes (new_state w sitting)

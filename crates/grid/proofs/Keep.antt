@@ -41,9 +41,9 @@ module _ {w n : ℕ} {rows : List Row} where
   pub rows_count : (m : ℕ) → n ≡ m → RowsFacts w n rows → RowsFacts w m rows
   rows_count m e f = record { count = omega arith; valid = f.valid }
 
-  pub row-at : (r : ℕ) → r < n → RowsFacts w n rows → RowFacts w (row_at rows r)
+  pub row_at_facts : (r : ℕ) → r < n → RowsFacts w n rows → RowFacts w (row_at rows r)
   unfolding row_at
-  row-at r h f = row_facts w _ (every_at (valid_row w) rows r _ f.valid (omega arith))
+  row_at_facts r h f = row_facts w _ (every_at (valid_row w) rows r _ f.valid (omega arith))
 
 pub rows_replicate : (w n : ℕ) (x : Row) → valid_row w x ≡ true → RowsFacts w n (replicate n x)
 rows_replicate w n x v = record { count = length-replicate n x; valid = every_replicate (valid_row w) n x v }
@@ -78,9 +78,9 @@ module _ (w : ℕ) (cs : List ℕ) (fits : length cs ≤ w) (most : w ≤ 80) wh
   spaced_is = sym (append_assoc cs (replicate (w - length cs) 32) (replicate (80 - w) 0))
 
   -- a row of the characters cs
-  pub line-row : (attr : Attr) (f : ℕ) → f ≤ 1 → every printable cs ≡ true → RowFacts w (line_row w attr f cs)
+  pub line_row_facts : (attr : Attr) (f : ℕ) → f ≤ 1 → every printable cs ≡ true → RowFacts w (line_row w attr f cs)
   unfolding line_row line rest
-  line-row attr f h v =
+  line_row_facts attr f h v =
       record {
         chars80 = rw spaced_is (simp (length-append, length-replicate) (omega arith));
         attrs80 = length_padded w (byte_of attr) most;
@@ -97,13 +97,13 @@ blank_is w attr =
     let e : w - 0 ≡ w = omega arith in
     rw e
 
-pub blank-row : (w : ℕ) (attr : Attr) → w ≤ 80 → valid_row w (blank_row w attr) ≡ true
+pub blank_row_valid : (w : ℕ) (attr : Attr) → w ≤ 80 → valid_row w (blank_row w attr) ≡ true
 unfolding every
-blank-row w attr h = rw blank_is at (row_valid w _ (line-row w [] (omega arith) h attr 0 (omega arith) refl))
+blank_row_valid w attr h = rw blank_is at (row_valid w _ (line_row_facts w [] (omega arith) h attr 0 (omega arith) refl))
 
-pub flag-row : (w f : ℕ) (x : Row) → f ≤ 1 → RowFacts w x → RowFacts w (flag_row f x)
+pub flag_row_facts : (w f : ℕ) (x : Row) → f ≤ 1 → RowFacts w x → RowFacts w (flag_row f x)
 unfolding flag_row
-flag-row w f x h p =
+flag_row_facts w f x h p =
     record {
       chars80 = p.chars80;
       attrs80 = p.attrs80;
@@ -125,7 +125,7 @@ module _ {w e : ℕ} {old : List Row} (f : RowsFacts w 25 old) where
 
   pub edited_flag : (r n : ℕ) → r < e → e ≤ 25 → n ≤ 1 → Edited w e old (set_flag old r n)
   unfolding set_flag
-  edited_flag r n h k l = edited_set r _ h (row_valid w _ (flag-row w n _ l (row-at r (omega arith) f)))
+  edited_flag r n h k l = edited_set r _ h (row_valid w _ (flag_row_facts w n _ l (row_at_facts r (omega arith) f)))
 
   pub edited_top : (top : List Row) → e ≤ 25 → RowsFacts w e top → Edited w e old (top ++ drop e old)
   edited_top top k g =
@@ -134,15 +134,15 @@ module _ {w e : ℕ} {old : List Row} (f : RowsFacts w 25 old) where
 -- ---- screens
 
 pub blank_of : (s : Screen) → ScreenFacts s → valid_row s.head.width (blank_row s.head.width s.head.attr) ≡ true
-blank_of s f = blank-row _ _ f.head.width_to
+blank_of s f = blank_row_valid _ _ f.head.width_to
 
-pub new-head : (w : ℕ) → HeadFacts (new_head w)
+pub new_head_facts : (w : ℕ) → HeadFacts (new_head w)
 unfolding new_head
-new-head w =
+new_head_facts w =
     let widths = cases (λ (v : ℕ). (v ≡ 40) ⊎ (v ≡ 80)) (eqb w 40) 40 80 (λ e. inl refl) (λ e. inr refl) in
     head_is _ widths (omega (arith, editable_from 1)) (omega (arith, width_from _ widths)) (omega arith) (omega arith) (omega arith) (omega arith)
     (omega arith)
 
-pub new-screen : (w : ℕ) → ScreenFacts (new_screen w)
+pub new_screen_facts : (w : ℕ) → ScreenFacts (new_screen w)
 unfolding new_screen
-new-screen w = record { head = new-head w; rows = rows_replicate _ 25 _ (blank-row _ normal (new-head w).width_to) }
+new_screen_facts w = record { head = new_head_facts w; rows = rows_replicate _ 25 _ (blank_row_valid _ normal (new_head_facts w).width_to) }

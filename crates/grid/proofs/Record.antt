@@ -61,9 +61,9 @@ module _ (l : List ℕ) (len : length l ≡ SIZE) where
   unfolding rows_of row_of
   attrs_read = blocks_read (λ (x : Row). x.attrs) ATTRS (λ r. refl) 25
 
-  pub rows-bytes : rows_bytes (rows_of l) ≡ drop FLAGS l
+  pub rows_bytes_of : rows_bytes (rows_of l) ≡ drop FLAGS l
   unfolding rows_bytes
-  rows-bytes =
+  rows_bytes_of =
       let f : flag_bytes (rows_of l) ≡ take 25 (drop FLAGS l) = unfold rows_of in flags_read 25 (omega arith) in
       let n : length (drop ATTRS l) ≤ 2000 = simp length-drop (omega arith) in
       let a : attr_bytes (rows_of l) ≡ drop 2000 (drop CHARS l) =
@@ -90,4 +90,4 @@ pub left_bytes : (m n : List ℕ) (h : Head) (R : List Row) (s : Stamp) → leng
     → n ≡ state_bytes (record { screen = record { head = h; rows = R }; stamp = s })
 unfolding state_bytes
 left_bytes m n h R s len e en =
-    en ∙ ap (λ (x : List ℕ). front_bytes h s ++ x) (sym (rows-bytes m len) ∙ ap rows_bytes e)
+    en ∙ ap (λ (x : List ℕ). front_bytes h s ++ x) (sym (rows_bytes_of m len) ∙ ap rows_bytes e)

@@ -117,9 +117,9 @@ module _ (l : List ℕ) (start w : ℕ) (len : length l ≡ SIZE) (wide : w ≤ 
   unfolding rows
   count_from = length-drop start (rows_of l) ∙ ap (λ (k : ℕ). k - start) (length_rows l)
 
-  row-from : (r : ℕ) → start ≤ r → r < 25 → get_or rows (r - start) no_row ≡ row_of l r
+  row_from_is : (r : ℕ) → start ≤ r → r < 25 → get_or rows (r - start) no_row ≡ row_of l r
   unfolding rows
-  row-from r h k =
+  row_from_is r h k =
       let q : start + (r - start) ≡ r = omega arith in
       get_or-drop start (rows_of l) (r - start) no_row ∙ ap (λ (j : ℕ). get_or (rows_of l) j no_row) q ∙ get_d_rows l r no_row k
 
@@ -130,7 +130,7 @@ module _ (l : List ℕ) (start w : ℕ) (len : length l ≡ SIZE) (wide : w ≤ 
   -- n characters more, from the row r
   more_from : (r n : ℕ) → start ≤ r → r < 25 → n ≤ w → line_from l start w ((r - start) * w + n) ≡ line_from l start w ((r - start) * w) ++ take n (row_of l r).chars
   unfolding line_from rows
-  more_from r n h k m = rw (← (row-from r h k)) (joined_more w (r - start) n rows wide_from (omega (arith, count_from)) m)
+  more_from r n h k m = rw (← (row_from_is r h k)) (joined_more w (r - start) n rows wide_from (omega (arith, count_from)) m)
 
   -- whole rows up to the row r, and n characters of it, cut
   pub cut_from : (r n : ℕ) → start ≤ r → r < 25 → n ≤ w
@@ -178,8 +178,8 @@ module _ (l : List ℕ) (start w r i : ℕ) (len : length l ≡ SIZE) (wide : w 
       let q : r + 1 - start ≡ suc (r - start) = omega arith in
       rw q (omega arith)
 
-  pub next-row : (n : ℕ) → i + w < n → n ≤ (25 - start) * w → r + 1 < 25
-  next-row n h h' =
+  pub next_row_inside : (n : ℕ) → i + w < n → n ≤ (25 - start) * w → r + 1 < 25
+  next_row_inside n h h' =
       let q : suc (r - start) * w < (25 - start) * w = omega arith in
       omega (arith, lt_of_mul-lt-mul_right w q)
 
@@ -194,11 +194,11 @@ index_start start w =
 
 -- ---- the sums of the code fit
 
-rows-to : (x w : ℕ) → x ≤ 25 → w ≤ 80 → x * w ≤ 2000
-rows-to x w h k = mul-le-mul {n₂ = 25} {m₂ = 80} h k
+rows_most : (x w : ℕ) → x ≤ 25 → w ≤ 80 → x * w ≤ 2000
+rows_most x w h k = mul-le-mul {n₂ = 25} {m₂ = 80} h k
 
 pub rows_fit : (x w : ℕ) → x ≤ 25 → w ≤ 80 → Fits w64 (x * w)
-rows_fit x w h k = record { fits = omega (arith, rows-to x w h k) }
+rows_fit x w h k = record { fits = omega (arith, rows_most x w h k) }
 
 pub chars_fit : (x w y : ℕ) → x ≤ 25 → w ≤ 80 → y ≤ 80 → Fits w64 (x * w + y)
-chars_fit x w y h k m = record { fits = omega (arith, rows-to x w h k) }
+chars_fit x w y h k m = record { fits = omega (arith, rows_most x w h k) }

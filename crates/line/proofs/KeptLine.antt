@@ -18,17 +18,17 @@ use Rattle.values.specs.declared.attr.Attr.{Attr}
 use Rattle.octets.proofs.Bools.{and_left, and_right, cases, either, every_both, every_take, every_drop}
 use Rattle.grid.proofs.Trim.{trim_le}
 use Rattle.grid.proofs.Validity.{row_facts, row_valid}
-use Rattle.grid.proofs.Keep.{rows_take, rows_drop, rows_append, rows_cons, rows_count, rows_replicate, row-at, spaces, line-row, Edited, edited_top, blank_of}
+use Rattle.grid.proofs.Keep.{rows_take, rows_drop, rows_append, rows_cons, rows_count, rows_replicate, row_at_facts, spaces, line_row_facts, Edited, edited_top, blank_of}
 use Rattle.line.specs.Line.{MAX-LOGICAL, flagged, span_start, span_end, start_of, end_of, joined, row_text, whole_rows, reading, line_text, index, reach, content}
 use Rattle.line.specs.Splice.{rows_for, line_rows, spliced_rows, splice}
 use Rattle.line.proofs.Kept.{Kept}
 
 -- ---- spans
 
-span-start : (rows : List Row) (r : ℕ) → span_start rows r ≤ r
+span_start_most : (rows : List Row) (r : ℕ) → span_start rows r ≤ r
 unfolding span_start
-span-start rows zero = omega arith
-span-start rows (suc r) = let h = span-start rows r in either (λ (x : ℕ). x ≤ suc r) (flagged rows r) _ _ (omega arith) (omega arith)
+span_start_most rows zero = omega arith
+span_start_most rows (suc r) = let h = span_start_most rows r in either (λ (x : ℕ). x ≤ suc r) (flagged rows r) _ _ (omega arith) (omega arith)
 
 span_end_from : (rows : List Row) (k r : ℕ) → r ≤ span_end rows k r
 unfolding span_end
@@ -50,7 +50,7 @@ pub span : (s : Screen) (r : ℕ) → r < editable s.head.keys → SpanFacts s r
 unfolding start_of end_of
 span s r h =
     let k : ℕ = editable s.head.keys - 1 - r in
-    record { from = span-start s.rows r; to = span_end_from s.rows k r; inside = omega (arith, span_end_to s.rows k r) }
+    record { from = span_start_most s.rows r; to = span_end_from s.rows k r; inside = omega (arith, span_end_to s.rows k r) }
 
 -- ---- the text that is edited: at most 255 characters, with the cursor at i
 
@@ -73,7 +73,7 @@ module _ (s : Screen) (f : ScreenFacts s) where
 
   row_chars : (r : ℕ) → r < 25 → every printable (row_text s r) ≡ true
   unfolding row_text
-  row_chars r h = (row-at r h f.rows).inside
+  row_chars r h = (row_at_facts r h f.rows).inside
 
   pub content_text : TextFacts (content s) (index s)
   unfolding content index
@@ -131,8 +131,8 @@ pub record RowsForFacts (w n i k : ℕ) : Type 0 where
   pub most : k ≤ 24
   pub full : (k - 1) * w ≤ n
 
-pub rows-for : (w n i : ℕ) → (w ≡ 40) ⊎ (w ≡ 80) → n ≤ MAX-LOGICAL → i ≤ n → RowsForFacts w n i (rows_for w n i)
-rows-for w n i c h l =
+pub rows_for_facts : (w n i : ℕ) → (w ≡ 40) ⊎ (w ≡ 80) → n ≤ MAX-LOGICAL → i ≤ n → RowsForFacts w n i (rows_for w n i)
+rows_for_facts w n i c h l =
     ⊎_elim
     (λ (q : w ≡ 40). rw q
     (rows_for_cases (RowsForFacts 40 n i) 40 n i (λ a. omega arith) (λ a b c. omega arith) (λ a. omega arith) (λ a. omega arith)))
@@ -140,15 +140,15 @@ rows-for w n i c h l =
     (rows_for_cases (RowsForFacts 80 n i) 80 n i (λ a. omega arith) (λ a b c. omega arith) (λ a. omega arith) (λ a. omega arith)))
     c
 
-pub line-rows : (k w : ℕ) (a : Attr) (cs : List ℕ) → w ≤ 80 → every printable cs ≡ true → RowsFacts w k (line_rows k w a cs)
+pub line_rows_facts : (k w : ℕ) (a : Attr) (cs : List ℕ) → w ≤ 80 → every printable cs ≡ true → RowsFacts w k (line_rows k w a cs)
 unfolding line_rows every
-line-rows zero w a cs h v = record { count = refl; valid = refl }
-line-rows (suc k) w a cs h v =
+line_rows_facts zero w a cs h v = record { count = refl; valid = refl }
+line_rows_facts (suc k) w a cs h v =
     let f : ℕ = if eqb k 0 then 0 else 1 in
     let flag : f ≤ 1 = either (λ (x : ℕ). x ≤ 1) (eqb k 0) _ _ (omega arith) (omega arith) in
     let fits : length (take w cs) ≤ w = simp length-take (omega arith) in
-    rows_cons _ (row_valid w _ (line-row w (take w cs) fits h a f flag (every_take printable w cs v)))
-    (line-rows k w a (drop w cs) h (every_drop printable w cs v))
+    rows_cons _ (row_valid w _ (line_row_facts w (take w cs) fits h a f flag (every_take printable w cs v)))
+    (line_rows_facts k w a (drop w cs) h (every_drop printable w cs v))
 
 -- k rows are kept, and blank rows fill up to e
 filled : {w k e : ℕ} {old kept : List Row} (blank : Row) → RowsFacts w 25 old → RowsFacts w k kept → valid_row w blank ≡ true → e ≤ 25 → k ≤ e
@@ -162,10 +162,10 @@ rows_fit : (b e n x y : ℕ) → b < e → n ≤ e → x ≤ b - (b + n - e) →
 rows_fit b e n x y lt most p q = omega arith
 
 -- of e editable rows, the rows b to d become the n rows `new`
-pub spliced-rows : {w n e : ℕ} {rows new : List Row} (b d : ℕ) (blank : Row) → RowsFacts w 25 rows → RowsFacts w n new → valid_row w blank ≡ true
+pub spliced_rows_facts : {w n e : ℕ} {rows new : List Row} (b d : ℕ) (blank : Row) → RowsFacts w 25 rows → RowsFacts w n new → valid_row w blank ≡ true
     → e ≤ 25 → b < e → n ≤ e → Edited w e rows (spliced_rows rows e b d new blank)
 unfolding spliced_rows
-spliced-rows {n = n} {e = e} b d blank f g v le lt most =
+spliced_rows_facts {n = n} {e = e} b d blank f g v le lt most =
     let before = rows_drop (b + n - e) (rows_take b f) in
     let after = rows_take (e - (b + n)) (rows_drop (d + 1) (rows_take e f)) in
     rw g.count (filled blank f (rows_append before (rows_append g after)) v le (rows_fit b e n _ _ lt most (omega arith) (omega arith)))
@@ -174,7 +174,7 @@ spliced-rows {n = n} {e = e} b d blank f g v le lt most =
 pub respliced : (s : Screen) (b d n : ℕ) (new : List Row) → ScreenFacts s → RowsFacts s.head.width n new → b < editable s.head.keys → n ≤ 24
     → Edited s.head.width (editable s.head.keys) s.rows
     (spliced_rows s.rows (editable s.head.keys) b d new (blank_row s.head.width s.head.attr))
-respliced s b d n new f g h most = spliced-rows b d _ f.rows g (blank_of s f) f.head.edit_to h (omega arith)
+respliced s b d n new f g h most = spliced_rows_facts b d _ f.rows g (blank_of s f) f.head.edit_to h (omega arith)
 
 module _ {P : Screen → Type 0} (k : Kept P) where
   pub spliced : (s : Screen) (cs : List ℕ) (i : ℕ) → P s → TextFacts cs i → P (splice s cs i)
@@ -182,7 +182,7 @@ module _ {P : Screen → Type 0} (k : Kept P) where
   spliced s cs i p t =
       let f = k.facts s p in
       let u = span s s.head.cursor.row f.head.row in
-      let n = rows-for s.head.width (length cs) i f.head.widths t.fits t.within in
+      let n = rows_for_facts s.head.width (length cs) i f.head.widths t.fits t.within in
       let b : start_of s s.head.cursor.row < editable s.head.keys = omega arith in
-      let new = line-rows (rows_for s.head.width (length cs) i) s.head.width s.head.attr cs f.head.width_to t.chars in
+      let new = line_rows_facts (rows_for s.head.width (length cs) i) s.head.width s.head.attr cs f.head.width_to t.chars in
       k.move _ _ (k.edit s _ p (respliced s _ _ _ _ f new b n.most)) (omega arith) (mod-lt i (omega arith))

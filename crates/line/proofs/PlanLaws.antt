@@ -39,7 +39,7 @@ plan_made b d k e over h = rw h
 
 pub plan_laid : (b d k e : ℕ) → b ≤ d → d < e → 24 ≤ e → e ≤ 25 → k ≤ 8 → Laid (plan_of b d k e)
 unfolding plan_of
-plan_laid b d k e h₁ h₂ h₃ h₄ h₅ = record { rows-to = omega arith; whole = omega arith; over_to = omega arith; next_to = omega arith }
+plan_laid b d k e h₁ h₂ h₃ h₄ h₅ = record { rows_most = omega arith; whole = omega arith; over_to = omega arith; next_to = omega arith }
 
 -- ---- the planned row, case by case
 

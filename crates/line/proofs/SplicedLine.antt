@@ -20,7 +20,7 @@ use Rattle.grid.proofs.Trim.{trim_run, trim_le}
 use Rattle.line.specs.Line.{flagged, span_start, span_end, start_of, end_of, joined, row_text, whole_rows, index, reach, content}
 use Rattle.line.specs.Splice.{rows_for, line_rows, spliced_rows, splice}
 use Rattle.line.specs.Plan.{plan_of, line_flag, planned_row, planned_rows}
-use Rattle.line.proofs.KeptLine.{SpanFacts, span, TextFacts, RowsForFacts, rows-for}
+use Rattle.line.proofs.KeptLine.{SpanFacts, span, TextFacts, RowsForFacts, rows_for_facts}
 use Rattle.line.proofs.PlanLaws.{planned_above, planned_line, length_lines, line_at}
 use Rattle.line.proofs.SpliceLaws.{spliced_planned}
 
@@ -140,7 +140,7 @@ module _ (s : Screen) (cs : List ℕ) (i : ℕ) (f : ScreenFacts s) (t : TextFac
 
   taken : RowsForFacts w (length cs) i n
   unfolding n w
-  taken = rows-for w (length cs) i f.head.widths t.fits t.within
+  taken = rows_for_facts w (length cs) i f.head.widths t.fits t.within
 
   -- it begins inside, and so do all of its rows
   whole : top + n ≤ e

@@ -20,7 +20,7 @@ plan_of b d k e = record { top = b - (b + k - e); over = b + k - e; lines = k; n
 
 -- a plan keeps to the screen
 pub record Laid (p : Plan) : Type 0 where
-  pub rows-to : p.rows ≤ 25
+  pub rows_most : p.rows ≤ 25
   pub whole : p.top + p.lines ≤ p.rows
   pub over_to : p.top + p.over < 25
   pub next_to : p.next ≤ 25

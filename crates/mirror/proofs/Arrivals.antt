@@ -33,16 +33,16 @@ use Rattle.mirror.specs.declared.arrive.Arrived.TheVariants.{Refused, Noted, App
 use Rattle.mirror.specs.Order.{latest, same_pair}
 use Rattle.mirror.specs.Count.{later_of, Count, counted}
 use Rattle.mirror.specs.Demand3.{Sitting, screen_after, Paper, numbered}
-use Rattle.mirror.proofs.OrderLaws.{same-pair}
+use Rattle.mirror.proofs.OrderLaws.{same_pair_is}
 use Rattle.mirror.proofs.Later.{latest_is}
 use Rattle.report.proofs.KindLaws.{mask_small}
 use Rattle.report.proofs.Carried.{Covers, merge_carry, every_carry, length_carry}
 use Rattle.mirror.proofs.Screens.{touched_all, covers_touched, covers_all}
 use Rattle.report.proofs.RoundTrips.{ReportFacts, report_back, report_passes}
 use Rattle.mirror.proofs.RoundTrips.{MirrorFacts, mirror_back, length_mirror, mirror_passes}
-use Rattle.octets.proofs.Found.{small_accepted, all-pass}
+use Rattle.octets.proofs.Found.{small_accepted, all_passed}
 use Rattle.mirror.proofs.Counts.{shown_due}
-use Rattle.mirror.proofs.Runs.{calls, state_at, facts_at, screen_at, valid_at, pair-at, calls_few, touched_at}
+use Rattle.mirror.proofs.Runs.{calls, state_at, facts_at, screen_at, valid_at, pair_at_is, calls_few, touched_at}
 
 -- ---- any mirror, any slice
 
@@ -79,7 +79,7 @@ module _ (μ : Mirror) (r : Report) (v : MirrorFacts μ) (f : ReportFacts r) whe
       let q = mirror_back μ v in
       let kept : not (due (read_report (report_bytes r)) (read_mirror (mirror_bytes μ)) && width_without_rows (read_report (report_bytes r)) (read_mirror (mirror_bytes μ))) ≡ true =
       ap₂ (λ (x : Report) (y : Mirror). not (due x y && width_without_rows x y)) p q ∙ passed (due r μ) (width_without_rows r μ) h in
-      all-pass _
+      all_passed _
       (and_both _ _ (eq-eqb _ MIRROR-SIZE (length_mirror μ v))
       (and_both _ _ (mirror_passes μ v) (and_both _ _ (report_passes r f) (and_both _ _ kept refl))))
 
@@ -98,10 +98,10 @@ module _ (μ : Mirror) (r : Report) (v : MirrorFacts μ) (f : ReportFacts r) whe
 
 -- ---- the reports of a sitting
 
-mask-fits : (kind : Kind) (touched : ℕ) → mask_of kind touched < MASKS → mask_fits kind (mask_of kind touched) ≡ true
+mask_fits_kind : (kind : Kind) (touched : ℕ) → mask_of kind touched < MASKS → mask_fits kind (mask_of kind touched) ≡ true
 unfolding mask_of mask_fits
-mask-fits Step touched h = lt-ltb touched MASKS h
-mask-fits Full touched h = refl
+mask_fits_kind Step touched h = lt-ltb touched MASKS h
+mask_fits_kind Full touched h = refl
 
 not_missing : (v w mask : ℕ) → (v ≢ w → mask ≡ ALL-ROWS) → not (eqb v w) && not (eqb mask ALL-ROWS) ≡ false
 not_missing v w mask h = go (eqb v w) refl
@@ -121,7 +121,7 @@ module _ (s : Sitting) where
 
   pub state_was : (m : ℕ) → m ≤ length (calls s) → state_at s m ≡ was m
   unfolding was
-  state_was m h = λ i. record { screen = screen_at s m i; stamp = record { pair = pair-at s m h i; touched = (state_at s m).stamp.touched } }
+  state_was m h = λ i. record { screen = screen_at s m i; stamp = record { pair = pair_at_is s m h i; touched = (state_at s m).stamp.touched } }
 
   mask_lt : (kind : Kind) (m : ℕ) → mask_of kind (state_at s m).stamp.touched < MASKS
   mask_lt kind m = mask_small kind _ (facts_at s m).touched
@@ -134,7 +134,7 @@ module _ (s : Sitting) where
       let mask = mask_of kind (state_at s m).stamp.touched in
       record {
         pair = record { sitting = s.number_fits; serial = omega (arith, calls_few s) };
-        mask = mask-fits kind _ (mask_lt kind m);
+        mask = mask_fits_kind kind _ (mask_lt kind m);
         head = head_valid (screen_after s m).head f.head;
         rows = every_carry (valid_row (screen_after s m).head.width) (bits 25 mask) (screen_after s m).rows f.rows.valid;
         carried = length_carry 25 mask _ f.rows.count (mask_lt kind m);
@@ -172,7 +172,7 @@ module _ (paper : Paper) where
     due_carries Full shown e =
         record { covers = covers_all _ _ (valid_at (numbered paper shown.sitting) shown.serial) (valid_at s m); wide = λ d. refl }
     due_carries Step shown e =
-        let next : pair_after s m ≡ next_pair shown = same-pair (pair_after s m) (next_pair shown) e in
+        let next : pair_after s m ≡ next_pair shown = same_pair_is (pair_after s m) (next_pair shown) e in
         let same : numbered paper shown.sitting ≡ s = ap (λ (p : Pair). numbered paper p.sitting) (sym next) ∙ is in
         let one : m ≡ suc shown.serial = ap (λ (p : Pair). p.serial) next ∙ add-one shown.serial in
         subst (λ (x : Sitting). Carries s Step m (screen_after x shown.serial)) (sym same)

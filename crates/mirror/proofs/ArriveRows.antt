@@ -28,7 +28,7 @@ use Rattle.report.specs.Report.{read_front, row_in, carried_rows, read_report}
 use Rattle.report.specs.Refusals.{ValidReport}
 use Rattle.report.proofs.Conditions.{length_from}
 use Rattle.report.proofs.RowByRow.{trues, rows_before, merge_more, before_more, before_most}
-use Rattle.report.proofs.CheckLaws.{length_rows_in, row-at}
+use Rattle.report.proofs.CheckLaws.{length_rows_in, row_at_facts}
 use Rattle.mirror.specs.Mirror.{shown}
 use Rattle.mirror.specs.Parts.{Room, Placed, PlacedIf}
 
@@ -98,7 +98,7 @@ module _ (b : List ℕ) (mask from : ℕ) where
             ≡ (if h then set (merge (bits r mask) carried (rows_of l)) r (get_or carried (rows_before mask r) no_row) else merge (bits r mask) carried (rows_of l))
         go true e =
             ap₂ (λ (x : List Row) (y : Row). set x r y) a.becomes.rows
-            (ap (row_in b) a.place ∙ sym (row-at from (ones mask) b (rows_before mask r) no_row (before_lt mask r e)))
+            (ap (row_in b) a.place ∙ sym (row_at_facts from (ones mask) b (rows_before mask r) no_row (before_lt mask r e)))
         go false e = a.becomes.rows
 
     place_eq : n ≡ from + ROW-SIZE * rows_before mask (r + 1)

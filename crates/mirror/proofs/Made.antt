@@ -22,7 +22,7 @@ use Rattle.report.specs.Report.{Report, front_of, report_of, report_bytes, read_
 use Rattle.mirror.specs.Count.{Heard, heard_in}
 use Rattle.mirror.specs.Demand3.{Sitting, accepted_by, record_after, Paper, sitting, report}
 use Rattle.report.proofs.RoundTrips.{report_back}
-use Rattle.octets.proofs.Found.{unless_none, all-pass}
+use Rattle.octets.proofs.Found.{unless_none, all_passed}
 use Rattle.mirror.proofs.Runs.{state_at, facts_at, accepted_le, record_is}
 use Rattle.mirror.proofs.Arrivals.{pair_after, was, state_was, made_facts}
 
@@ -30,7 +30,7 @@ use Rattle.mirror.proofs.Arrivals.{pair_after, was, state_was, made_facts}
 none_refused : (t : State) (out : List ℕ) → StateFacts t → LONGEST ≤ length out → first_of (record_tests (leb LONGEST (length out)) (state_bytes t)) ≡ 0
 unfolding record_tests all_pass
 none_refused t out f h =
-    all-pass _
+    all_passed _
     (and_both _ _ (and_both _ _ (eq-eqb (length (state_bytes t)) SIZE (length_state t f)) (le-leb LONGEST (length out) h)) (and_both _ _ (state_valid t f) refl))
 
 -- the report call on the record of a state

@@ -26,9 +26,9 @@ pub same_serial : (p q : Pair) → p.serial ≡ q.serial → eqb p.sitting q.sit
 unfolding same_pair
 same_serial p q e = sym (simp (eq-eqb p.serial q.serial e, Bool.and-true))
 
-pub same-pair : (p q : Pair) → same_pair p q ≡ true → p ≡ q
+pub same_pair_is : (p q : Pair) → same_pair p q ≡ true → p ≡ q
 unfolding same_pair
-same-pair p q e =
+same_pair_is p q e =
     let a = eqb-true _ _ (and_left (eqb p.sitting q.sitting) _ e) in
     let b = eqb-true _ _ (and_right (eqb p.sitting q.sitting) _ e) in
     λ i. record { sitting = a i; serial = b i }

@@ -31,7 +31,7 @@ use Rattle.mirror.specs.declared.arrive.Arrived.TheVariants.{Refused, Noted, App
 use Rattle.mirror.specs.Mirror.{new_mirror, mirror_bytes, read_mirror, due_at, due, width_without_rows, noted, applied, taken, level_of, leaving, mirrorb, creating_mirror, arrival_tests, arrived, arrived_outcome, arrival}
 use Rattle.mirror.specs.Refusals.{ValidMirror, NewMirrorRefused, CreatingMirrorAnswers, WidthWithoutRows, ArrivalRefused, ArrivalAnswers}
 use Rattle.mirror.specs.Refusals.NewMirrorRefused.{mirror_length as new-length}
-use Rattle.mirror.specs.Refusals.ArrivalRefused.{mirror_length, mirror_layout, report_layout, width-without-rows}
+use Rattle.mirror.specs.Refusals.ArrivalRefused.{mirror_length, mirror_layout, report_layout, other_width}
 use Rattle.mirror.specs.Order.{same_pair}
 use Rattle.mirror.proofs.Conditions.{mirror_facts, facts_mirror}
 use Rattle.mirror.proofs.ArriveLeft.{arrival_ordered}
@@ -103,7 +103,7 @@ module _ (l b : List ℕ) where
   arrival_sound k (now e) = mirror_length (eqb-false _ _ e)
   arrival_sound k (later p (now e)) = mirror_layout ((fails (ValidMirror l) (mirrorb l) (mirror_facts l) (facts_mirror l)).1 e)
   arrival_sound k (later p (later q (now e))) = report_layout ((fails (ValidReport b) (reportb b) (report_facts b) (facts_report b)).1 e)
-  arrival_sound k (later p (later q (later r (now e)))) = width-without-rows (fault_wide r (not-false _ e))
+  arrival_sound k (later p (later q (later r (now e)))) = other_width (fault_wide r (not-false _ e))
   arrival_sound k (later p (later q (later r (later s f)))) = none_first f
 
   arrival_whole : (k : ℕ) → ArrivalRefused l b k → Fails (arrival_tests l b) k
@@ -111,7 +111,7 @@ module _ (l b : List ℕ) where
   arrival_whole k (mirror_length n) = here (ne_eqb _ _ n)
   arrival_whole k (mirror_layout n) = there (here ((fails (ValidMirror l) (mirrorb l) (mirror_facts l) (facts_mirror l)).0 n))
   arrival_whole k (report_layout n) = there (there (here ((fails (ValidReport b) (reportb b) (report_facts b) (facts_report b)).0 n)))
-  arrival_whole k (width-without-rows w) = there (there (there (here (ap not (wide_fault w)))))
+  arrival_whole k (other_width w) = there (there (there (here (ap not (wide_fault w)))))
 
   abbrev first : ℕ
   first = first_of (arrival_tests l b)

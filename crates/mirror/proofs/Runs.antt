@@ -30,14 +30,14 @@ module _ (s : Sitting) where
   pub state_at : ℕ → State
   state_at m = steps (take m calls) (new_state s.width s.number)
 
-  new-record : new_record s ≡ state_bytes (new_state s.width s.number)
+  new_record_is : new_record s ≡ state_bytes (new_state s.width s.number)
   unfolding new_record creating first_of
-  new-record =
+  new_record_is =
       ap (λ (o : Written). o.bytes) (unless_none _ _ _ (pick _ _ _ (eq-eqb (length s.buffer) SIZE s.buffer_size)))
 
   pub facts_at : (m : ℕ) → StateFacts (state_at m)
   unfolding state_at calls
-  facts_at m = rw new-record (calls_facts m s.calls (new_state s.width s.number) (new_facts s.width s.number s.number_fits))
+  facts_at m = rw new_record_is (calls_facts m s.calls (new_state s.width s.number) (new_facts s.width s.number s.number_fits))
 
   pub screen_at : (m : ℕ) → (state_at m).screen ≡ screen_after s m
   unfolding state_at calls screen_after new_state
@@ -54,8 +54,8 @@ module _ (s : Sitting) where
   unfolding state_at new_state
   sitting_at m = steps_sitting (take m calls) (new_state s.width s.number)
 
-  pub pair-at : (m : ℕ) → m ≤ length calls → (state_at m).stamp.pair ≡ record { sitting = s.number; serial = m }
-  pair-at m h = λ i. record { sitting = sitting_at m i; serial = serial_at m h i }
+  pub pair_at_is : (m : ℕ) → m ≤ length calls → (state_at m).stamp.pair ≡ record { sitting = s.number; serial = m }
+  pair_at_is m h = λ i. record { sitting = sitting_at m i; serial = serial_at m h i }
 
   -- no call is accepted at the last serial
   pub calls_few : length calls < SERIALS
@@ -78,6 +78,6 @@ module _ (s : Sitting) where
   unfolding record_after accepted_by state_at calls
   record_is k =
       let t = new_state s.width s.number in
-      ap (λ (l : List ℕ). record_left l (take k s.calls)) new-record ∙ calls_left (take k s.calls) t (new_facts s.width s.number s.number_fits)
-      ∙ ap (λ (l : List ℕ). state_bytes (steps (accepted l (take k s.calls)) t)) (sym new-record)
+      ap (λ (l : List ℕ). record_left l (take k s.calls)) new_record_is ∙ calls_left (take k s.calls) t (new_facts s.width s.number s.number_fits)
+      ∙ ap (λ (l : List ℕ). state_bytes (steps (accepted l (take k s.calls)) t)) (sym new_record_is)
       ∙ ap (λ (ds : List Call). state_bytes (steps ds t)) (accepted_first k s.calls (new_record s))

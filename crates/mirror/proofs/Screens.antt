@@ -18,7 +18,7 @@ use Rattle.grid.proofs.TouchedLaws.{length_differing}
 use Rattle.grid.proofs.Validity.{row_facts, screen_facts}
 use Rattle.report.specs.Layout.{ALL-ROWS}
 use Rattle.report.specs.Carried.{bits}
-use Rattle.report.proofs.Carried.{Covers, same-row, differing_covers, all_cover, bits_number}
+use Rattle.report.proofs.Carried.{Covers, same_row_is, differing_covers, all_cover, bits_number}
 
 -- ---- two widths
 
@@ -55,7 +55,7 @@ module _ (v w : ℕ) (h : v ≢ w) (p : v ≤ 80) (q : w ≤ 80) where
       go : (x : Bool) → same_row a b ≡ x → differing o n ≡ replicate (length o) true
           → ◌≡◌ {A = List Bool} (not x ∷ differing o n) (true ∷ replicate (length o) true)
       go true e d =
-          let u : valid_row v b ≡ true = rw (same-row a b e) at (and_left (valid_row v a) _ s) in
+          let u : valid_row v b ≡ true = rw (same_row_is a b e) at (and_left (valid_row v a) _ s) in
           absurd (no_row v w b h p q (row_facts v b u) (row_facts w b (and_left (valid_row w b) _ t)))
       go false e d = ap (λ (l : List Bool). true ∷ l) d
 

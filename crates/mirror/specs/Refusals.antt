@@ -56,7 +56,7 @@ pub data ArrivalRefused (l b : List ℕ) : ℕ → Type 0 where
   mirror_length : length l ≢ MIRROR-SIZE → ArrivalRefused l b 1
   mirror_layout : ¬ ValidMirror l → ArrivalRefused l b 2
   report_layout : ¬ ValidReport b → ArrivalRefused l b 5
-  width-without-rows : WidthWithoutRows l b → ArrivalRefused l b 6
+  other_width : WidthWithoutRows l b → ArrivalRefused l b 6
 
 pub record ArrivalAnswers (l b : List ℕ) : Type 0 where
   pub number : Refuses (ArrivalRefused l b) (arrival l b).number

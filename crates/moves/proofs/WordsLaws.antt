@@ -52,28 +52,28 @@ module _ (c : ℕ) (t : Bool) (is : t ≡ (leb 65 c && leb c 90)) where
 
 module _ (h : Head) (f : HeadFacts h) where
   -- the rows above the cursor, and its own
-  rows-to : h.cursor.row * h.width + h.width ≤ editable h.keys * h.width
-  rows-to = omega (arith, mul-le-mul_right {m = suc h.cursor.row} {n = editable h.keys} h.width f.row)
+  rows_most : h.cursor.row * h.width + h.width ≤ editable h.keys * h.width
+  rows_most = omega (arith, mul-le-mul_right {m = suc h.cursor.row} {n = editable h.keys} h.width f.row)
 
   cells_to : editable h.keys * h.width ≤ 25 * h.width
   cells_to = mul-le-mul_right h.width f.edit_to
 
   -- `flat_index`
   pub above_fits : Fits w64 (h.cursor.row * h.width)
-  above_fits = record { fits = omega (arith, rows-to, cells_to) }
+  above_fits = record { fits = omega (arith, rows_most, cells_to) }
 
   pub cell_fits : Fits w64 (h.cursor.row * h.width + h.cursor.col)
-  cell_fits = record { fits = omega (arith, rows-to, cells_to) }
+  cell_fits = record { fits = omega (arith, rows_most, cells_to) }
 
   pub cell_flat : Flat h (h.cursor.row * h.width + h.cursor.col)
-  cell_flat = record { is = refl; inside = omega (arith, rows-to); below = omega (arith, rows-to, cells_to) }
+  cell_flat = record { is = refl; inside = omega (arith, rows_most); below = omega (arith, rows_most, cells_to) }
 
   -- `cells`
   pub cells_fit : (e : ℕ) → e ≡ editable h.keys → Fits w64 (e * h.width)
   cells_fit e ie = rw ie (record { fits = omega (arith, cells_to) })
 
   pub cells_all : (e : ℕ) → e ≡ editable h.keys → Cells h (e * h.width)
-  cells_all e ie = rw ie (record { is = refl; some = omega (arith, rows-to); most = cells_to })
+  cells_all e ie = rw ie (record { is = refl; some = omega (arith, rows_most); most = cells_to })
 
 -- `set_flat`
 pub flat_set : (h g : Head) (c : Cursor) (i : ℕ) → c ≡ record { row = i / h.width; col = i % h.width } → g ≡ with_cursor h c
@@ -196,9 +196,9 @@ module _ (s : Screen) where
 -- ---- `word_left`, `word_right`
 
 module _ (l : List ℕ) (h : Head) (p : Known l h) where
-  cell-of : (i : ℕ) → Flat h i → i ≡ cell_of (screen_of l)
+  cell_is : (i : ℕ) → Flat h i → i ≡ cell_of (screen_of l)
   unfolding cell_of
-  cell-of i f = f.is ∙ ap (λ (x : Head). x.cursor.row * x.width + x.cursor.col) p.head
+  cell_is i f = f.is ∙ ap (λ (x : Head). x.cursor.row * x.width + x.cursor.col) p.head
 
   -- where the rule goes from a cell that is not the first
   left_to : Cursor
@@ -208,7 +208,7 @@ module _ (l : List ℕ) (h : Head) (p : Known l h) where
   unfolding apply rule word_left left_to
   left_none i f z =
       let s : Screen = screen_of l in
-      rw (pick (eqb (cell_of s) 0) s (move_to s left_to) (eq-eqb (cell_of s) 0 (sym (cell-of i f) ∙ z))) (record { rows = refl; head = p.head })
+      rw (pick (eqb (cell_of s) 0) s (move_to s left_to) (eq-eqb (cell_of s) 0 (sym (cell_is i f) ∙ z))) (record { rows = refl; head = p.head })
 
   pub left_inside : (i j : ℕ) → Flat h i → j ≡ back_to_word (screen_of l) (i - 1) → j < 25 * h.width
   left_inside i j f e = omega (arith, back_le (screen_of l) (i - 1))
@@ -218,8 +218,8 @@ module _ (l : List ℕ) (h : Head) (p : Known l h) where
   unfolding apply rule word_left left_to
   left_done i j k g f ne ij ik ig =
       let s : Screen = screen_of l in
-      let at : k ≡ word_start s (back_to_word s (cell_of s - 1)) = ik ∙ ap (word_start s) (ij ∙ ap (λ (n : ℕ). back_to_word s (n - 1)) (cell-of i f)) in
-      rw (skip (eqb (cell_of s) 0) s (move_to s left_to) (ne_eqb (cell_of s) 0 (λ q. ne (cell-of i f ∙ q))))
+      let at : k ≡ word_start s (back_to_word s (cell_of s - 1)) = ik ∙ ap (word_start s) (ij ∙ ap (λ (n : ℕ). back_to_word s (n - 1)) (cell_is i f)) in
+      rw (skip (eqb (cell_of s) 0) s (move_to s left_to) (ne_eqb (cell_of s) 0 (λ q. ne (cell_is i f ∙ q))))
       (rw at at (goes l h p (λ (x : Head). place x.width k) _ g refl ig))
 
   cells_of : (max : ℕ) → Cells h max → max ≡ editable (head_of l).keys * (head_of l).width
@@ -236,7 +236,7 @@ module _ (l : List ℕ) (h : Head) (p : Known l h) where
     right_to n e ig =
         let s : Screen = screen_of l in
         let m = cells_of max f in
-        let c = cell-of i fi in
+        let c = cell_is i fi in
         let a : j ≡ past_word s (editable (head_of l).keys * (head_of l).width - cell_of s) (cell_of s) = rw (m, c) at ij in
         let b : k ≡ past_gap s (editable (head_of l).keys * (head_of l).width - j) j = rw m at ik in
         rw (rw (b, a, m) at e) at (goes l h p (λ (x : Head). place x.width n) _ g refl ig)

@@ -215,11 +215,11 @@ none_fails p [] o e = refl
 none_fails p ((k, true) ∷ ts) o e = none_fails (place_in order k) ts (ordered_rest p k true ts o) e
 none_fails p ((k, false) ∷ ts) o e = absurd (placed k (ordered_here p k false ts o).place e)
 
-pub all-pass : (ts : List (ℕ × Bool)) → all_pass ts ≡ true → first_of ts ≡ 0
+pub all_passed : (ts : List (ℕ × Bool)) → all_pass ts ≡ true → first_of ts ≡ 0
 unfolding first_of all_pass
-all-pass [] e = refl
-all-pass ((k, true) ∷ ts) e = all-pass ts e
-all-pass ((k, false) ∷ ts) e = absurd (true≢false (sym e))
+all_passed [] e = refl
+all_passed ((k, true) ∷ ts) e = all_passed ts e
+all_passed ((k, false) ∷ ts) e = absurd (true≢false (sym e))
 
 pub pass_append : (xs ys : List (ℕ × Bool)) → all_pass (xs ++ ys) ≡ all_pass xs && all_pass ys
 unfolding all_pass
@@ -293,9 +293,9 @@ pub small_accepted : (n : ℕ) → n ≤ refused 0 → is_refusal n ≡ false
 unfolding is_refusal
 small_accepted n h = le-ltb (refused 0) n h
 
-pub is-refused : (n : ℕ) → is_refusal n ≡ true → refused 1 ≤ n
+pub refusal_from : (n : ℕ) → is_refusal n ≡ true → refused 1 ≤ n
 unfolding is_refusal
-is-refused n e = ltb-true (refused 0) n e
+refusal_from n e = ltb-true (refused 0) n e
 
 pub is_accepted : (n : ℕ) → is_refusal n ≡ false → n < refused 1
 unfolding is_refusal

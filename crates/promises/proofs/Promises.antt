@@ -22,11 +22,11 @@ pub promises : Promises
 promises =
     record {
       changing_calls = changing_answers;
-      new-screen = creating_answers;
+      new_screen = creating_answers;
       reading_calls = asking_answers;
       text_calls = texting_answers;
       report_calls = λ kind l out. reporting_answers l out kind;
-      new-mirror = creating_mirror_answers;
+      new_mirror = creating_mirror_answers;
       arrivals = arrival_answers;
       strip_call = stripping_answers;
       new_valid = λ w sitting h. record_facts _ (state_valid _ (new_facts w sitting h));

@@ -31,7 +31,7 @@ pub record Promises : Type 0 where
   -- with the 27 changing calls
   pub changing_calls : (c : Call) (l : List ℕ) → ChangingAnswers c l
   -- and with new screen, "they don't read the buffer's old bytes, so 2 is not tested"
-  pub new-screen : (w sitting : ℕ) (l : List ℕ) → CreatingAnswers w sitting l
+  pub new_screen : (w sitting : ℕ) (l : List ℕ) → CreatingAnswers w sitting l
   -- and with the reading calls, "`cell` a row 0 to 24 and a column below the width; `continues` a row 0 to 24" (a lent slice holds bytes)
   pub reading_calls : (q : Query) (l : List ℕ) → every is_byte l ≡ true → AskingAnswers q l
   -- and with the text calls, "line output under 255, snapshot output under 2,024"
@@ -39,7 +39,7 @@ pub record Promises : Type 0 where
   -- and with the report calls: an output shorter than the longest report is refusal 1
   pub report_calls : (kind : Kind) (l out : List ℕ) → ReportingAnswers kind l out
   -- and with new mirror, of which the length alone is tested, as of new screen
-  pub new-mirror : (w sitting : ℕ) (m : List ℕ) → CreatingMirrorAnswers w sitting m
+  pub new_mirror : (w sitting : ℕ) (m : List ℕ) → CreatingMirrorAnswers w sitting m
   -- and with arrivals, "an arriving report breaks its layout", "a step report that would be applied changes the width without carrying all 25 rows"
   pub arrivals : (m b : List ℕ) → ArrivalAnswers m b
   -- and with the strip, "a bad strip width is 3; the strip output's length is then not tested"

@@ -10,9 +10,11 @@ ghost use Rattle.replay.specs.Entry.{HEAD, LONGEST-INPUT, LONGEST-BODY};
 
 use entry::{HEAD, LONGEST_BODY, LONGEST_INPUT};
 use grid::layout::SIZE;
-use libc::STDOUT_FILENO;
 use line::text::MAX_LOGICAL;
 use octets::number::four_at;
+use std::fs::File;
+use std::io::Read;
+use std::{env, io};
 
 // More than any file has: by it the loop over the entries ends.
 const MOST_CALLS: u64 = 1000000000;
@@ -58,7 +60,7 @@ fn redo(head: &[u8], body: &[u8], n: usize, end: usize, rec: &mut [u8]) -> Found
         return Found::Differs;
     }
     // Behind the text there are only zeros, in the body as in out.
-    if !check::same(&body[n..n + MAX_LOGICAL], out) {
+    if &body[n..n + MAX_LOGICAL] != out {
         return Found::Differs;
     }
     if entry::digest(head, &body[0..end], rec) != four_at(head, entry::DIGEST) {
@@ -67,10 +69,24 @@ fn redo(head: &[u8], body: &[u8], n: usize, end: usize, rec: &mut [u8]) -> Found
     Found::AsRecorded
 }
 
+// Reads until buf is full, the input ends or a read fails, and answers how many bytes it put at the start of buf.
+fn read_full(input: &mut impl Read, buf: &mut [u8]) -> usize
+    ensures { result ≤ length buf.new }
+{
+    let mut done = 0;
+    while done < buf.len() {
+        match input.read(&mut buf[done..]) {
+            Ok(0) | Err(_) => break,
+            Ok(n) => done += n,
+        }
+    }
+    done
+}
+
 // Reads the next entry and does its call.
-fn turn(fd: i32, rec: &mut [u8]) -> Found {
+fn turn(input: &mut impl Read, rec: &mut [u8]) -> Found {
     let mut head = [0u8; HEAD];
-    let got = io::read_full(fd, &mut head);
+    let got = read_full(input, &mut head);
     if got == 0 {
         return Found::End;
     }
@@ -84,14 +100,14 @@ fn turn(fd: i32, rec: &mut [u8]) -> Found {
     let end = n + entry::text_length(&head);
     let mut space = [0u8; LONGEST_BODY];
     let body: &mut [u8] = &mut space;
-    if io::read_full(fd, &mut body[0..end]) < end {
+    if read_full(input, &mut body[0..end]) < end {
         return Found::Cut;
     }
     redo(&head, body, n, end, rec)
 }
 
 // Does the calls of the file, to its end or to an entry whose end is not known. One with a tag that is none counts as a call that differs.
-fn replay(fd: i32) -> Tally {
+fn replay(input: &mut impl Read) -> Tally {
     let mut space = [0u8; SIZE];
     let rec: &mut [u8] = &mut space;
     let mut calls: u64 = 0;
@@ -99,7 +115,7 @@ fn replay(fd: i32) -> Tally {
     let mut no_call: u64 = 0;
     let mut last = Found::AsRecorded;
     while calls < MOST_CALLS {
-        last = turn(fd, rec);
+        last = turn(input, rec);
         match last {
             Found::AsRecorded => {}
             Found::Differs => {
@@ -123,36 +139,24 @@ fn replay(fd: i32) -> Tally {
     }
 }
 
-fn report(t: Tally) {
-    io::print_decimal(STDOUT_FILENO, t.calls);
-    io::write_all(STDOUT_FILENO, b" calls, ");
-    io::print_decimal(STDOUT_FILENO, t.differ);
-    io::write_all(STDOUT_FILENO, b" differ\n");
+fn report(rt: &impl Print, t: Tally) -> io::Result<()> {
+    println!(rt; "{} calls, {} differ", t.calls, t.differ)?;
     if t.no_call > 0 {
-        io::print_decimal(STDOUT_FILENO, t.no_call);
-        io::write_all(STDOUT_FILENO, b" with a tag that is none\n");
+        println!(rt; "{} with a tag that is none", t.no_call)?;
     }
-    let last = t.last;
-    match last {
-        Found::Cut => {
-            io::write_all(STDOUT_FILENO, b"the file ends in the middle of an entry\n");
-        }
-        Found::TooLong => {
-            io::write_all(STDOUT_FILENO, b"the next entry has too long an input\n");
-        }
-        _ => {}
+    match t.last {
+        Found::Cut => println!(rt; "the file ends in the middle of an entry"),
+        Found::TooLong => println!(rt; "the next entry has too long an input"),
+        _ => Ok(()),
     }
 }
 
-fn main() {
-    let mut path = io::buffer();
-    let n = os::arg(1, &mut path);
-    let fd = os::open_read(&path[..n]);
-    if fd < 0 {
-        os::fail(&path[..n]);
-        return;
-    }
-    let t = replay(fd);
-    libc::close(fd);
-    report(t);
+fn main(rt: HostRuntime) -> io::Result<()> {
+    let Some(path) = env::args(&rt)?.nth(1) else {
+        let message = "the first argument names the recording";
+        return Err(io::Error::new(io::ErrorKind::InvalidInput, message));
+    };
+    let mut file = File::open(&rt, path.as_str())?;
+    let t = replay(&mut file);
+    report(&rt, t)
 }

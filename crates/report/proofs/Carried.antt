@@ -26,9 +26,9 @@ same_eq (x ∷ xs) (y ∷ ys) t =
     let q : xs ≡ ys = same_eq xs ys (and_right (eqb x y) (same xs ys) t) in
     cc
 
-pub same-row : (a b : Row) → same_row a b ≡ true → a ≡ b
+pub same_row_is : (a b : Row) → same_row a b ≡ true → a ≡ b
 unfolding same_row
-same-row a b t =
+same_row_is a b t =
     let p : a.flag ≡ b.flag = eqb-true _ _ (search (and_left, and_right)) in
     let q : a.chars ≡ b.chars = same_eq _ _ (search (and_left, and_right)) in
     let r : a.attrs ≡ b.attrs = same_eq _ _ (search (and_left, and_right)) in
@@ -54,7 +54,7 @@ differing_covers (a ∷ o) [] h = absurd (omega arith)
 differing_covers (a ∷ o) (b ∷ n) h = go (same_row a b) refl (differing_covers o n (omega arith))
   where
     go : (t : Bool) → same_row a b ≡ t → Covers (differing o n) o n → Covers (not t ∷ differing o n) (a ∷ o) (b ∷ n)
-    go true e c = rw (← (same-row a b e)) (kept c)
+    go true e c = rw (← (same_row_is a b e)) (kept c)
     go false e c = new c
 
 pub all_cover : (o n : List Row) → length o ≡ length n → Covers (replicate (length o) true) o n

@@ -23,7 +23,7 @@ use Rattle.report.specs.Layout.{REPORT-VERSION, KIND, ROWS, ROW-SIZE}
 use Rattle.report.specs.declared.front.Front.{Front}
 use Rattle.report.specs.Kind.{kind_byte, mask_fits, rows_at, report_length}
 use Rattle.report.specs.Report.{read_front, row_in, carried_rows, read_report, frontb, reportb}
-use Rattle.report.proofs.KindLaws.{rows-at}
+use Rattle.report.proofs.KindLaws.{rows_at_kind}
 
 -- ---- the front f: n, x and k are the length that the mask asks, the length that is told, and the byte of the kind
 
@@ -129,8 +129,8 @@ get_d_rows_in (suc n) b (suc i) d h =
     get_d_rows_in n (drop ROW-SIZE b) i d (omega arith) ∙ row_on b ROW-SIZE (ROW-SIZE * i) ∙ ap (row_in b) e
 
 -- row i of those from index a on
-pub row-at : (a n : ℕ) (b : List ℕ) (i : ℕ) (d : Row) → i < n → get_or (carried_rows n (drop a b)) i d ≡ row_in b (a + ROW-SIZE * i)
-row-at a n b i d h = get_d_rows_in n (drop a b) i d h ∙ row_on b a (ROW-SIZE * i)
+pub row_at_facts : (a n : ℕ) (b : List ℕ) (i : ℕ) (d : Row) → i < n → get_or (carried_rows n (drop a b)) i d ≡ row_in b (a + ROW-SIZE * i)
+row_at_facts a n b i d h = get_d_rows_in n (drop a b) i d h ∙ row_on b a (ROW-SIZE * i)
 
 module _ (b : List ℕ) (a n w : ℕ) where
   rows : List Row
@@ -152,14 +152,14 @@ module _ (b : List ℕ) (a n w : ℕ) where
       ap (λ (k : ℕ). every (valid_row w) (take k rows)) (add-one i)
       ∙ ap (every (valid_row w)) (take-suc rows i d (omega (arith, rows_n)))
       ∙ every_snoc (valid_row w) (take i rows) (get_or rows i d)
-      ∙ rw (all, row-at a n b i d h) (sym is ∙ not-false t ok)
+      ∙ rw (all, row_at_facts a n b i d h) (sym is ∙ not-false t ok)
 
   pub row_found_wrong : (i : ℕ) (t : Bool) → i < n → t ≡ valid_row w (row_in b (a + ROW-SIZE * i)) → not t ≡ true
       → false ≡ every (valid_row w) (carried_rows n (drop a b))
   unfolding rows
   row_found_wrong i t h is bad =
       let d : Row = row_in b 0 in
-      sym (every_not (valid_row w) rows i d (omega (arith, rows_n)) (ap (valid_row w) (row-at a n b i d h) ∙ sym is ∙ not-true t bad))
+      sym (every_not (valid_row w) rows i d (omega (arith, rows_n)) (ap (valid_row w) (row_at_facts a n b i d h) ∙ sym is ∙ not-true t bad))
 
   pub rows_tested : (i : ℕ) → i ≤ n → n ≤ i → every (valid_row w) (take i (carried_rows n (drop a b))) ≡ true
       → true ≡ every (valid_row w) (carried_rows n (drop a b))
@@ -172,7 +172,7 @@ module _ (b : List ℕ) where
   pub slice_short : length b < ROWS → false ≡ reportb b
   unfolding reportb
   slice_short h =
-      let k = rows-at (read_front b).kind in
+      let k = rows_at_kind (read_front b).kind in
       rw (sym (length_wrong b (read_front b) refl (report_length (read_front b).kind (read_front b).mask) refl (λ q. omega arith)))
 
   pub front_refuted : (t : Bool) → t ≡ frontb b → not t ≡ true → false ≡ reportb b

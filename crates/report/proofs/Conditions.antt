@@ -26,8 +26,8 @@ use Rattle.report.specs.Kind.{kind_byte, kind_of, mask_fits, report_length}
 use Rattle.report.specs.Report.{read_front, row_in, carried_rows, read_report, frontb, reportb}
 use Rattle.report.specs.Refusals.{KindFits, ValidReport}
 use Rattle.report.specs.Refusals.KindFits.{step, full}
-use Rattle.report.proofs.KindLaws.{rows-at, step_byte, full_of}
-use Rattle.report.proofs.CheckLaws.{length_rows_in, row-at}
+use Rattle.report.proofs.KindLaws.{rows_at_kind, step_byte, full_of}
+use Rattle.report.proofs.CheckLaws.{length_rows_in, row_at_facts}
 
 fits_kind : (k mask : ℕ) (kind : Kind) → k ≡ kind_byte kind → mask_fits kind mask ≡ true → KindFits k mask
 unfolding kind_byte mask_fits
@@ -58,11 +58,11 @@ mask_from b = refl
 -- the rows begin at the same place whatever the kind
 pub rows_from : (b : List ℕ) → (read_report b).rows ≡ carried_rows (ones (four_at b MASK)) (drop ROWS b)
 unfolding read_report read_front
-rows_from b = ap (λ (i : ℕ). carried_rows (ones (four_at b MASK)) (drop i b)) (rows-at (kind_of (get_or b KIND 0)))
+rows_from b = ap (λ (i : ℕ). carried_rows (ones (four_at b MASK)) (drop i b)) (rows_at_kind (kind_of (get_or b KIND 0)))
 
 pub length_from : (b : List ℕ) → report_length (read_front b).kind (read_front b).mask ≡ ROWS + ROW-SIZE * ones (four_at b MASK)
 unfolding read_front
-length_from b = ap (λ (i : ℕ). i + ROW-SIZE * ones (four_at b MASK)) (rows-at (kind_of (get_or b KIND 0)))
+length_from b = ap (λ (i : ℕ). i + ROW-SIZE * ones (four_at b MASK)) (rows_at_kind (kind_of (get_or b KIND 0)))
 
 pub kind_told : (b : List ℕ) → reportb b ≡ true → get_or b KIND 0 ≡ kind_byte (kind_of (get_or b KIND 0))
 unfolding reportb frontb read_front
@@ -76,7 +76,7 @@ report_rows : (b : List ℕ) (w n : ℕ) → w ≤ 80 → length b ≡ ROWS + RO
 unfolding row_in
 report_rows b w n wide size =
     rows_conditions w n b (carried_rows n (drop ROWS b)) (λ k. ROWS + ROW-SIZE * k) (λ k. ROWS + ROW-SIZE * k + 1) (λ k. ROWS + ROW-SIZE * k + 1 + 80) wide
-    (length_rows_in n (drop ROWS b)) (λ k h. (omega arith, omega arith)) (λ k h. row-at ROWS n b k no_row h)
+    (length_rows_in n (drop ROWS b)) (λ k h. (omega arith, omega arith)) (λ k h. row_at_facts ROWS n b k no_row h)
 
 -- ---- the report
 

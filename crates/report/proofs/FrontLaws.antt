@@ -25,7 +25,7 @@ use Rattle.report.specs.declared.front.Front.{Front}
 use Rattle.report.specs.Kind.{kind_byte, kind_of, mask_of, rows_at, report_length}
 use Rattle.report.specs.Report.{front_of, report_front, read_front}
 use Rattle.report.specs.Parts.{Fronts}
-use Rattle.report.proofs.KindLaws.{rows-at, mask_small}
+use Rattle.report.proofs.KindLaws.{rows_at_kind, mask_small}
 
 -- ---- its length
 
@@ -40,7 +40,7 @@ module _ (kind : Kind) (mask : ℕ) (f : Fits w32 mask) where
   rows_fit = record { fits = omega (arith, most) }
 
   pub length_fits : (n : ℕ) → n ≡ rows_at kind → Fits w64 (n + ROW-SIZE * ones mask)
-  length_fits n e = record { fits = omega (arith, most, rows-at kind) }
+  length_fits n e = record { fits = omega (arith, most, rows_at_kind kind) }
 
 -- ---- the front of a record's report: s is the stamp read, h the head
 
@@ -68,7 +68,7 @@ pub fronted : (l m₁ m₂ m₃ : List ℕ) (f : Front) (n k : ℕ) → n ≡ re
     → set (set (set (set m₃ 0 (n / 256 % 256)) 1 (n % 256)) 2 REPORT-VERSION) KIND k ≡ report_front f ++ drop (rows_at f.kind) l
 unfolding write report_front
 fronted l m₁ m₂ m₃ f n k en ek len e₁ e₂ e₃ =
-    let z : drop (rows_at f.kind) l ≡ drop ROWS l = ap (λ (i : ℕ). drop i l) (rows-at f.kind) in
+    let z : drop (rows_at f.kind) l ≡ drop ROWS l = ap (λ (i : ℕ). drop i l) (rows_at_kind f.kind) in
     rw (e₃, e₂, e₁, en, ek, z)
     (subst
     (λ (z : List ℕ). set (set (set (set (write (write (write z REPORT-PAIR (pair_bytes f.pair)) MASK (bytes4 f.mask)) HEAD (head_bytes f.head)) 0 (report_length f.kind f.mask / 256 % 256)) 1 (report_length f.kind f.mask % 256)) 2 REPORT-VERSION) KIND (kind_byte f.kind) ≡ report_front f ++ drop ROWS l)

@@ -30,10 +30,10 @@ kind_back Step = refl
 kind_back Full = refl
 
 -- the rows of either kind begin at the same place
-pub rows-at : (k : Kind) → rows_at k ≡ ROWS
+pub rows_at_kind : (k : Kind) → rows_at k ≡ ROWS
 unfolding rows_at
-rows-at Step = refl
-rows-at Full = refl
+rows_at_kind Step = refl
+rows_at_kind Full = refl
 
 pub mask_lt : (k : Kind) (mask : ℕ) → mask_fits k mask ≡ true → mask < MASKS
 unfolding mask_fits

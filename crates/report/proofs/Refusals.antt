@@ -19,7 +19,7 @@ use Rattle.report.specs.declared.kind.Kind.{Kind}
 use Rattle.report.specs.Report.{reported, reporting}
 use Rattle.report.specs.Refusals.{ReportRefused, ReportingAnswers}
 use Rattle.report.specs.Refusals.ReportRefused.{record_length, output_length, layout}
-use Rattle.report.proofs.KindLaws.{rows-at}
+use Rattle.report.proofs.KindLaws.{rows_at_kind}
 use Rattle.report.proofs.FrontLaws.{front_made}
 use Rattle.report.proofs.ReportLaws.{length_reported}
 
@@ -43,5 +43,5 @@ module _ (l out : List ℕ) where
       (λ e.
       let v = (tests_taken (leb LONGEST (length out)) l (none_fails 0 tests order e) e).valid in
       let i = front_made kind l (stamp_of l) (head_of l) _ v refl refl refl in
-      omega (arith, length_reported kind l _ v i, ones-le 25 _ i.small, rows-at kind)) refl in
+      omega (arith, length_reported kind l _ v i, ones-le 25 _ i.small, rows_at_kind kind)) refl in
       record { number = a.refuses; kept = λ h. ap (λ (o : Written). o.bytes) (a.kept h); done = a.done }

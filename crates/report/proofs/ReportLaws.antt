@@ -38,7 +38,7 @@ use Rattle.report.specs.Report.{report_of, report_front, row_bytes, carried_byte
 use Rattle.report.specs.Parts.{Fronts, row_if, Carries}
 use Rattle.report.proofs.Carried.{every_carry, length_carry}
 use Rattle.report.proofs.RowByRow.{carry_more}
-use Rattle.report.proofs.KindLaws.{rows-at}
+use Rattle.report.proofs.KindLaws.{rows_at_kind}
 use Rattle.report.proofs.RoundTrips.{length_carried}
 
 -- ---- a row
@@ -152,10 +152,10 @@ module _ (kind : Kind) (l : List ℕ) (f : Front) (v : Valid l) (is : Fronts kin
 
   pub length_reported : length (reported kind l) ≡ report_length kind mask
   length_reported =
-      ap length reported_is ∙ (unfold report_front in omega (arith, carried_size, rows-at kind))
+      ap length reported_is ∙ (unfold report_front in omega (arith, carried_size, rows_at_kind kind))
 
   pub report_fits : (n : ℕ) → n ≡ report_length kind mask → Fits w32 n
-  report_fits n e = record { fits = omega (arith, few, rows-at kind) }
+  report_fits n e = record { fits = omega (arith, few, rows_at_kind kind) }
 
   pub report_written : (o p n : List ℕ) (from : ℕ) → LONGEST ≤ length o → from ≡ rows_at kind → p ≡ report_front f ++ drop (rows_at f.kind) o
       → n ≡ write p from (carried_bytes (carry (bits 25 f.mask) (rows_of l))) → n ≡ over (reported kind l) o
@@ -164,10 +164,10 @@ module _ (kind : Kind) (l : List ℕ) (f : Front) (v : Valid l) (is : Fronts kin
       let D : List ℕ = drop ROWS o in
       let d : length D ≡ length o - ROWS = length-drop ROWS o in
       let k : length (reported kind l) ≡ ROWS + length carried = ap length reported_is ∙ (unfold report_front in omega arith) in
-      let start : from ≡ ROWS = ef ∙ rows-at kind in
+      let start : from ≡ ROWS = ef ∙ rows_at_kind kind in
       let e₀ : n ≡ write p ROWS carried = en ∙ ap (λ (i : ℕ). write p i carried) start in
       let e₁ : n ≡ write (F ++ D) ROWS carried =
-      e₀ ∙ ap (λ (x : List ℕ). write x ROWS carried) (ep ∙ ap (λ (i : ℕ). F ++ drop i o) (rows-at f.kind)) in
+      e₀ ∙ ap (λ (x : List ℕ). write x ROWS carried) (ep ∙ ap (λ (i : ℕ). F ++ drop i o) (rows_at_kind f.kind)) in
       let e₂ : write (F ++ D) ROWS carried ≡ F ++ write D 0 carried = unfold write report_front in refl in
       let e₃ : write D 0 carried ≡ carried ++ drop (length carried) D = write_front D carried (omega (arith, carried_size, few)) in
       let e₄ : drop (length carried) D ≡ drop (length (reported kind l)) o =
@@ -191,7 +191,7 @@ module _ (l o : List ℕ) (k : ℕ) (is : k ≡ refused_with (first_of (record_t
     report_room = leb-true LONGEST (length o) (lengths_known (leb LONGEST (length o)) l k is zero)
 
     pub rows_room : (kind : Kind) (p : List ℕ) (from : ℕ) → from ≡ rows_at kind → length p ≡ length o → from + ROW-SIZE * 25 ≤ length p
-    rows_room kind p from e s = omega (arith, rows-at kind, report_room)
+    rows_room kind p from e s = omega (arith, rows_at_kind kind, report_room)
 
     pub front_fits : (kind : Kind) (f : Front) → Fronts kind l f → HeadFits f.head
     front_fits kind f i = i.fits

@@ -27,7 +27,7 @@ use Rattle.report.specs.Layout.{REPORT-VERSION, KIND, REPORT-PAIR, MASK, HEAD, R
 use Rattle.report.specs.declared.front.Front.{Front}
 use Rattle.report.specs.Kind.{kind_byte, mask_fits, report_length}
 use Rattle.report.specs.Report.{Report, report_front, row_bytes, carried_bytes, report_bytes, read_front, row_in, carried_rows, read_report, frontb, reportb}
-use Rattle.report.proofs.KindLaws.{rows-at, kind_back, mask_lt}
+use Rattle.report.proofs.KindLaws.{rows_at_kind, kind_back, mask_lt}
 use Rattle.report.proofs.Conditions.{front_from, mask_from, rows_from, length_from, kind_told, report_facts}
 
 row_size : (w : ℕ) (x : Row) → valid_row w x ≡ true → length (row_bytes x) ≡ ROW-SIZE
@@ -100,14 +100,14 @@ module _ (r : Report) (f : ReportFacts r) where
 
   length_back : length (report_bytes r) ≡ report_length r.front.kind r.front.mask
   unfolding report_bytes report_front
-  length_back = omega (arith, length_carried r.front.head.width r.rows f.rows, f.carried, rows-at r.front.kind)
+  length_back = omega (arith, length_carried r.front.head.width r.rows f.rows, f.carried, rows_at_kind r.front.kind)
 
   pub report_passes : reportb (report_bytes r) ≡ true
   unfolding reportb frontb
   report_passes =
       let b = report_bytes r in
       let n : number2 (get_or b 0 0) (get_or b 1 0) ≡ length b =
-      unfold report_bytes report_front in (whole2 _ (omega (arith, ones-le 25 r.front.mask small, rows-at r.front.kind)) ∙ sym length_back) in
+      unfold report_bytes report_front in (whole2 _ (omega (arith, ones-le 25 r.front.mask small, rows_at_kind r.front.kind)) ∙ sym length_back) in
       let v : get_or b 2 0 ≡ REPORT-VERSION = unfold report_bytes report_front in refl in
       let k : get_or b KIND 0 ≡ kind_byte r.front.kind = unfold report_bytes report_front in refl in
       let l = length_back in

@@ -20,8 +20,8 @@ max_bit a b = suc-le-suc (max-le (le_of_suc-le-suc (mod-lt a two_pos)) (le_of_su
 or_odd : (a b : ℕ) → bit_or a b % 2 ≡ max (a % 2) (b % 2)
 or_odd a b = ap (λ (x : ℕ). x % 2) (or_step a b) ∙ digits_mod (bit_or (a / 2) (b / 2)) (max_bit a b)
 
-pub bit-or : (a b k : ℕ) → bit (bit_or a b) k ≡ max (bit a k) (bit b k)
-bit-or a b k = ap (λ (x : ℕ). x % 2) (or_shr a b k) ∙ or_odd (a / 2 ^ k) (b / 2 ^ k)
+pub bit_of_or : (a b k : ℕ) → bit (bit_or a b) k ≡ max (bit a k) (bit b k)
+bit_of_or a b k = ap (λ (x : ℕ). x % 2) (or_shr a b k) ∙ or_odd (a / 2 ^ k) (b / 2 ^ k)
 
 pub bit_pow_same : (r : ℕ) → bit (2 ^ r) r ≡ 1
 bit_pow_same r = ap (λ (x : ℕ). x / 2 ^ r % 2) (sym (one-mul (2 ^ r))) ∙ ap (λ (x : ℕ). x % 2) (shl-shr 1 r)
@@ -47,10 +47,10 @@ bit_pow_other r k ne =
 
 -- setting bit r: it is 1, and the others stay
 pub set_same : (m r : ℕ) → bit (bit_or m (2 ^ r)) r ≡ 1
-set_same m r = bit-or m (2 ^ r) r ∙ ap (λ (x : ℕ). max (bit m r) x) (bit_pow_same r) ∙ max-eq_right (le_of_suc-le-suc (mod-lt (m / 2 ^ r) two_pos))
+set_same m r = bit_of_or m (2 ^ r) r ∙ ap (λ (x : ℕ). max (bit m r) x) (bit_pow_same r) ∙ max-eq_right (le_of_suc-le-suc (mod-lt (m / 2 ^ r) two_pos))
 
 pub set_other : (m r k : ℕ) → (k ≡ r → ⊥) → bit (bit_or m (2 ^ r)) k ≡ bit m k
-set_other m r k ne = bit-or m (2 ^ r) k ∙ ap (λ (x : ℕ). max (bit m k) x) (bit_pow_other r k ne) ∙ max-zero (bit m k)
+set_other m r k ne = bit_of_or m (2 ^ r) k ∙ ap (λ (x : ℕ). max (bit m k) x) (bit_pow_other r k ne) ∙ max-zero (bit m k)
 
 -- `has_row`
 pub row_tested : (mask r : ℕ) → eqb (bit_and (mask / 2 ^ r) 1) 1 ≡ has_row mask r
