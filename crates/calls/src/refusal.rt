@@ -79,7 +79,8 @@ pub fn limited_refused(ch: u32, limit: usize) -> u32
     if limit < 1 {
         return REFUSED + 3;
     }
-    if limit <= MAX_LOGICAL {
+    let low = limit <= MAX_LOGICAL;
+    if low {
         return range_refused(ch <= 255);
     }
     REFUSED + 3

@@ -12,6 +12,7 @@ pub fn same_pair(p: Pair, q: Pair) -> bool
 }
 
 // Is p later than q?
+#[tactic(auto, unfolding(crate::specs::Order::later))]
 pub fn later(p: Pair, q: Pair) -> bool
     ensures { result ≡ later p q }
 {

@@ -6,8 +6,8 @@ use Rattle.calls.proofs.refusal.limited_refused.Goals as goal
 pub returns-then-limit-lt1 : goal.returns-then-limit-lt1
 returns-then-limit-lt1 c = search (rules, limit_low)
 
-pub returns-then-limit-le-MAX_LOGICAL : goal.returns-then-limit-le-MAX_LOGICAL
-returns-then-limit-le-MAX_LOGICAL c = search (rules, limit_taken)
+pub returns-then-low : goal.returns-then-low
+returns-then-low c = search (rules, limit_taken)
 
 pub returns : goal.returns
 returns c = search (rules, limit_high)
