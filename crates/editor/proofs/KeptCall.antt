@@ -20,7 +20,7 @@ use Rattle.editor.specs.Waiting.{taken}
 use Rattle.editor.specs.Modes.{set_width, set_keys_on}
 use Rattle.line.proofs.Kept.{Kept}
 use Rattle.editor.proofs.KeptPrint.{printed}
-use Rattle.editor.proofs.KeptTyping.{type_char_kept, delete_char_kept, back_space, erase_to_end_kept, escape_line_kept, tabbed, ctrl_enter_kept, take_line, break_line_kept}
+use Rattle.editor.proofs.KeptTyping.{type_char_kept, type_limited_kept, delete_char_kept, back_space, erase_to_end_kept, escape_line_kept, tabbed, ctrl_enter_kept, take_line, break_line_kept}
 use Rattle.editor.proofs.KeptMotion.{KeptModes, valid_modes, here, moved, homed, clamped, word_left_kept, word_right_kept, end_of_line_kept, cleared, width_set, keys_set}
 use Rattle.octets.specs.Refusals.{all_pass}
 use Rattle.octets.proofs.Bools.{and_left, and_right, either}
@@ -44,8 +44,8 @@ module _ {P : Screen → Type 0} (m : KeptModes P) where
   apply_kept (PrintBytes bs) s r p wide keys = printed k bs false s p
   apply_kept (PrintChecked bs) s r p wide keys = printed k bs false s p
   apply_kept (PrintWaiting bs rows) s r p wide keys = printed k (taken s rows bs) false s p
-  apply_kept (TypeChar ch) s r p wide keys = type_char_kept k MAX-LOGICAL s ch (omega arith) p
-  apply_kept (TypeLimited ch limit) s r p wide keys = type_char_kept k limit s ch (limit_most ch limit (and_left _ true r)) p
+  apply_kept (TypeChar ch) s r p wide keys = type_char_kept k s ch p
+  apply_kept (TypeLimited ch limit) s r p wide keys = type_limited_kept k limit s ch (limit_most ch limit (and_left _ true r)) p
   apply_kept Backspace s r p wide keys = back_space k s p
   apply_kept DeleteChar s r p wide keys = delete_char_kept k s p
   apply_kept EraseToEnd s r p wide keys = erase_to_end_kept k s p

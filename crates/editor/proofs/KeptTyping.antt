@@ -14,7 +14,7 @@ use Rattle.grid.specs.Facts.{ScreenFacts}
 use Rattle.octets.proofs.Bools.{cases, either, every_both, every_cons, every_take, every_drop, every_set}
 use Rattle.grid.proofs.Keep.{edited_flag}
 use Rattle.line.specs.Line.{MAX-LOGICAL, start_of, content, index}
-use Rattle.editor.specs.Typing.{type_within, type_limited, delete_char, backspace, erase_to_end}
+use Rattle.editor.specs.Typing.{type_at, type_char, type_within, type_limited, delete_char, backspace, erase_to_end}
 use Rattle.editor.specs.Lines.{escape_line, ctrl_enter, take_logical_line, break_line, too_long}
 use Rattle.editor.specs.Tab
 use Rattle.editor.specs.Tab.{type_spaces, next_stop, tab}
@@ -63,22 +63,27 @@ module _ {cs : List ℕ} {i : ℕ} (t : TextFacts cs i) where
 -- ---- typing
 
 module _ {P : Screen → Type 0} (k : Kept P) where
-  type_at : (limit : ℕ) (s : Screen) (cs : List ℕ) (i ch : ℕ) → limit ≤ MAX-LOGICAL → P s → TextFacts cs i → printable ch ≡ true → P (type_within limit s cs i ch)
+  within_kept : (limit : ℕ) (s : Screen) (cs : List ℕ) (i ch : ℕ) → limit ≤ MAX-LOGICAL → P s → TextFacts cs i → printable ch ≡ true → P (type_within limit s cs i ch)
   unfolding type_within
-  type_at limit s cs i ch most p t v =
+  within_kept limit s cs i ch most p t v =
       either P _ _ _
       (cases P _ _ _ (λ e. p) (λ e. spliced k s _ _ p (text_insert t ch v (omega (arith, leb-false limit (length cs) e)))))
       (cases P _ _ _ (λ e. spliced k s _ _ p (text_set t ch v (ltb-true _ _ e)))
       (λ e. cases P _ _ _ (λ e. p) (λ e. spliced k s _ _ p (text_add t ch v (omega (arith, leb-false limit (length cs) e))))))
 
-  pub type_char_kept : (limit : ℕ) (s : Screen) (ch : ℕ) → limit ≤ MAX-LOGICAL → P s → P (type_limited limit s ch)
+  pub type_limited_kept : (limit : ℕ) (s : Screen) (ch : ℕ) → limit ≤ MAX-LOGICAL → P s → P (type_limited limit s ch)
   unfolding type_limited
-  type_char_kept limit s ch most p = cases P _ _ _ (λ v. type_at limit s _ _ ch most p (content_text s (k.facts s p)) v) (λ e. p)
+  type_limited_kept limit s ch most p = cases P _ _ _ (λ v. within_kept limit s _ _ ch most p (content_text s (k.facts s p)) v) (λ e. p)
+
+  -- which at MAX-LOGICAL is typing
+  pub type_char_kept : (s : Screen) (ch : ℕ) → P s → P (type_char s ch)
+  unfolding type_char type_at type_limited type_within
+  type_char_kept s ch p = type_limited_kept MAX-LOGICAL s ch (omega arith) p
 
   type_spaces_kept : (n : ℕ) (s : Screen) → P s → P (type_spaces n s)
   unfolding type_spaces
   type_spaces_kept zero s p = p
-  type_spaces_kept (suc n) s p = let t = type_char_kept MAX-LOGICAL s 32 (omega arith) p in either P _ _ _ t (type_spaces_kept n (type_limited MAX-LOGICAL s 32) t)
+  type_spaces_kept (suc n) s p = let t = type_char_kept s 32 p in either P _ _ _ t (type_spaces_kept n (type_char s 32) t)
 
   module _ (s : Screen) (p : P s) where
     text : TextFacts (content s) (index s)

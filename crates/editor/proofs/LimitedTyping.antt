@@ -24,7 +24,7 @@ use Rattle.line.specs.Splice.{splice}
 use Rattle.values.specs.declared.cursor.Cursor.{Cursor}
 use Rattle.line.proofs.KeptLine.{TextFacts, content_text}
 use Rattle.line.proofs.SplicedLine.{spliced_content}
-use Rattle.editor.specs.Typing.{type_within, type_limited}
+use Rattle.editor.specs.Typing.{type_at, type_char, type_within, type_limited}
 use Rattle.editor.specs.Call.{limited_ok, rule, output, lengths, own, in_range, apply, submitted, answer, cr_left, cr_after, after_call, step}
 use Rattle.editor.specs.Call.Call.{TypeChar, TypeLimited}
 use Rattle.editor.specs.Outcome.{change_tests, changing}
@@ -72,13 +72,13 @@ module _ (limit : ℕ) (s : Screen) (ch : ℕ) where
           (λ e. rw (le-ltb (index s) (length (content s)) past, is_full))
 
   -- a character that stands inside is typed over, whatever the limit
-  over : s.head.insert ≡ 0 → index s < length (content s) → type_limited limit s ch ≡ type_limited MAX-LOGICAL s ch
-  unfolding type_limited type_within
+  over : s.head.insert ≡ 0 → index s < length (content s) → type_limited limit s ch ≡ type_char s ch
+  unfolding type_limited type_within type_char type_at
   over off inside = rw (ne_eqb s.head.insert 1 (λ q. omega arith), lt-ltb (index s) (length (content s)) inside)
 
   -- and with room all is as without a limit
-  roomy : limit ≤ MAX-LOGICAL → length (content s) < limit → type_limited limit s ch ≡ type_limited MAX-LOGICAL s ch
-  unfolding type_limited type_within
+  roomy : limit ≤ MAX-LOGICAL → length (content s) < limit → type_limited limit s ch ≡ type_char s ch
+  unfolding type_limited type_within type_char type_at
   roomy most short = rw (lt-leb limit (length (content s)) short, lt-leb MAX-LOGICAL (length (content s)) (omega arith))
 
   module _ (f : ScreenFacts s) (most : limit ≤ MAX-LOGICAL) where
@@ -163,7 +163,7 @@ after_typed ch limit s = refl
 
 module _ (ch limit : ℕ) (l : List ℕ) where
   -- where the rules do the same, so do the calls
-  same_call : 1 ≤ limit → limit ≤ MAX-LOGICAL → type_limited limit (screen_of l) ch ≡ type_limited MAX-LOGICAL (screen_of l) ch
+  same_call : 1 ≤ limit → limit ≤ MAX-LOGICAL → type_limited limit (screen_of l) ch ≡ type_char (screen_of l) ch
       → changing (TypeLimited ch limit) l ≡ changing (TypeChar ch) l
   unfolding changing change_tests lengths own output submitted answer step after_call cr_after apply rule limited_ok read_state
   same_call low high same = rw (le-leb 1 limit low, le-leb limit MAX-LOGICAL high, same)
@@ -194,7 +194,7 @@ module _ (ch limit : ℕ) (l : List ℕ) where
 -- ---- the promise
 
 pub limited_typing : LimitedTyping
-unfolding changing change_tests lengths own output submitted answer step after_call cr_after apply rule limited_ok
+unfolding changing change_tests lengths own output submitted answer step after_call cr_after apply rule limited_ok type_char type_at type_limited type_within
 limited_typing =
     record {
       at_255 = λ ch l. refl;

@@ -22,7 +22,7 @@ use Rattle.line.specs.Given.{Known, Begun, SpanIs}
 use Rattle.line.specs.Text.{Sound, Holds, text_of}
 use Rattle.line.specs.declared.text.Text.{Text}
 use Rattle.line.proofs.TextLaws.{length_text}
-use Rattle.editor.specs.Typing.{type_within, type_limited, type_at, delete_char, backspace, erase_to_end}
+use Rattle.editor.specs.Typing.{type_within, type_limited, type_at, type_char, delete_char, backspace, erase_to_end}
 use Rattle.editor.specs.Lines.{escape_line}
 use Rattle.editor.specs.Call.{TypeChar, TypeLimited, Backspace, DeleteChar, EraseToEnd, EscapeLine, rule, apply}
 use Rattle.editor.specs.Given.{Copied}
@@ -43,7 +43,7 @@ module _ (l old : List ℕ) (h : Head) (copied : Copied l old) (is : h ≡ head_
   pub still : Leaves (screen_of old) l l h
   still = record { becomes = record { size = copied.size; front = refl; rows = ap rows_of copied.copy }; head = is }
 
--- ---- type_at
+-- ---- type_within
 
 module _ (l old : List ℕ) (h : Head) (ch limit : ℕ) (t : Text) (begin : Begun l old h) (sound : Sound t) where
   on : h.insert ≡ 1 → eqb (head_of old).insert 1 ≡ true
@@ -67,57 +67,84 @@ module _ (l old : List ℕ) (h : Head) (ch limit : ℕ) (t : Text) (begin : Begu
   same_screen : Leaves (screen_of old) l l h
   same_screen = record { becomes = record { size = begin.size; front = refl; rows = ap rows_of begin.copy }; head = begin.known.head }
 
-  pub insert_full : h.insert ≡ 1 → limit ≤ t.len → Leaves (type_within limit (screen_of old) (text_of t) t.index ch) l l h
+  pub insert_full_within : h.insert ≡ 1 → limit ≤ t.len → Leaves (type_within limit (screen_of old) (text_of t) t.index ch) l l h
   unfolding type_within
-  insert_full i k = rw (on i, full k) same_screen
+  insert_full_within i k = rw (on i, full k) same_screen
 
-  pub extend_full : (h.insert ≡ 1 → ⊥) → t.len ≤ t.index → limit ≤ t.len → Leaves (type_within limit (screen_of old) (text_of t) t.index ch) l l h
+  pub extend_full_within : (h.insert ≡ 1 → ⊥) → t.len ≤ t.index → limit ≤ t.len → Leaves (type_within limit (screen_of old) (text_of t) t.index ch) l l h
   unfolding type_within
-  extend_full i j k = rw (off i, behind j, full k) same_screen
+  extend_full_within i j k = rw (off i, behind j, full k) same_screen
 
   -- t' is the text with the character, g the head that splice has handed back, and m what it has left
   module _ (t' : Text) (g : Head) (m : List ℕ) (left : Leaves (splice (screen_of old) (text_of t') t'.index) l m g) where
-    pub insert_done : Holds t' (take t.index (text_of t) ++ (ch ∷ drop t.index (text_of t))) (t.index + 1) → h.insert ≡ 1 → t.len < limit
+    pub insert_done_within : Holds t' (take t.index (text_of t) ++ (ch ∷ drop t.index (text_of t))) (t.index + 1) → h.insert ≡ 1 → t.len < limit
         → Leaves (type_within limit (screen_of old) (text_of t) t.index ch) l m g
     unfolding type_within
-    insert_done new i k = rw (on i, room k, ← new.text, ← new.at) left
+    insert_done_within new i k = rw (on i, room k, ← new.text, ← new.at) left
+
+    pub replace_done_within : Holds t' (set (text_of t) t.index ch) (t.index + 1) → (h.insert ≡ 1 → ⊥) → t.index < t.len
+        → Leaves (type_within limit (screen_of old) (text_of t) t.index ch) l m g
+    unfolding type_within
+    replace_done_within new i k = rw (off i, inside k, ← new.text, ← new.at) left
+
+    pub extend_done_within : Holds t' (text_of t ++ (ch ∷ [])) (t.index + 1) → (h.insert ≡ 1 → ⊥) → t.len ≤ t.index → t.len < limit
+        → Leaves (type_within limit (screen_of old) (text_of t) t.index ch) l m g
+    unfolding type_within
+    extend_done_within new i j k = rw (off i, behind j, room k, ← new.text, ← new.at) left
+
+-- ---- type_at: it is that with the limit of every line
+
+module _ (l old : List ℕ) (h : Head) (ch : ℕ) (t : Text) (begin : Begun l old h) (sound : Sound t) where
+  pub insert_full : h.insert ≡ 1 → MAX-LOGICAL ≤ t.len → Leaves (type_at (screen_of old) (text_of t) t.index ch) l l h
+  unfolding type_at type_within
+  insert_full = insert_full_within l old h ch MAX-LOGICAL t begin sound
+
+  pub extend_full : (h.insert ≡ 1 → ⊥) → t.len ≤ t.index → MAX-LOGICAL ≤ t.len → Leaves (type_at (screen_of old) (text_of t) t.index ch) l l h
+  unfolding type_at type_within
+  extend_full = extend_full_within l old h ch MAX-LOGICAL t begin sound
+
+  module _ (t' : Text) (g : Head) (m : List ℕ) (left : Leaves (splice (screen_of old) (text_of t') t'.index) l m g) where
+    pub insert_done : Holds t' (take t.index (text_of t) ++ (ch ∷ drop t.index (text_of t))) (t.index + 1) → h.insert ≡ 1 → t.len < MAX-LOGICAL
+        → Leaves (type_at (screen_of old) (text_of t) t.index ch) l m g
+    unfolding type_at type_within
+    insert_done = insert_done_within l old h ch MAX-LOGICAL t begin sound t' g m left
 
     pub replace_done : Holds t' (set (text_of t) t.index ch) (t.index + 1) → (h.insert ≡ 1 → ⊥) → t.index < t.len
-        → Leaves (type_within limit (screen_of old) (text_of t) t.index ch) l m g
-    unfolding type_within
-    replace_done new i k = rw (off i, inside k, ← new.text, ← new.at) left
+        → Leaves (type_at (screen_of old) (text_of t) t.index ch) l m g
+    unfolding type_at type_within
+    replace_done = replace_done_within l old h ch MAX-LOGICAL t begin sound t' g m left
 
-    pub extend_done : Holds t' (text_of t ++ (ch ∷ [])) (t.index + 1) → (h.insert ≡ 1 → ⊥) → t.len ≤ t.index → t.len < limit
-        → Leaves (type_within limit (screen_of old) (text_of t) t.index ch) l m g
-    unfolding type_within
-    extend_done new i j k = rw (off i, behind j, room k, ← new.text, ← new.at) left
+    pub extend_done : Holds t' (text_of t ++ (ch ∷ [])) (t.index + 1) → (h.insert ≡ 1 → ⊥) → t.len ≤ t.index → t.len < MAX-LOGICAL
+        → Leaves (type_at (screen_of old) (text_of t) t.index ch) l m g
+    unfolding type_at type_within
+    extend_done = extend_done_within l old h ch MAX-LOGICAL t begin sound t' g m left
 
--- ---- type_char: u is what is_printable has answered
+-- ---- type_limited, type_char: u is what is_printable has answered
 
-pub typed_ignored : (l old : List ℕ) (h : Head) (ch limit : ℕ) (u : Bool) → Copied l old → h ≡ head_of old → u ≡ printable ch → not u ≡ true
+pub limited_ignored : (l old : List ℕ) (h : Head) (ch limit : ℕ) (u : Bool) → Copied l old → h ≡ head_of old → u ≡ printable ch → not u ≡ true
     → Leaves (apply (TypeLimited ch limit) (screen_of old)) l l h
 unfolding apply rule type_limited
-typed_ignored l old h ch limit u copied ih eu nu = rw (sym eu ∙ not-true u nu) (still l old h copied ih)
+limited_ignored l old h ch limit u copied ih eu nu = rw (sym eu ∙ not-true u nu) (still l old h copied ih)
 
 -- t is the content
-pub typed_done : (l m old : List ℕ) (g : Head) (ch limit : ℕ) (u : Bool) (t : Text) → u ≡ printable ch → not u ≡ false
+pub limited_done : (l m old : List ℕ) (g : Head) (ch limit : ℕ) (u : Bool) (t : Text) → u ≡ printable ch → not u ≡ false
     → Holds t (content (screen_of old)) (index (screen_of old)) → Leaves (type_within limit (screen_of old) (text_of t) t.index ch) l m g
     → Leaves (apply (TypeLimited ch limit) (screen_of old)) l m g
 unfolding apply rule type_limited
-typed_done l m old g ch limit u t eu nu holds x = rw (sym eu ∙ not-false u nu, ← holds.text, ← holds.at) x
+limited_done l m old g ch limit u t eu nu holds x = rw (sym eu ∙ not-false u nu, ← holds.text, ← holds.at) x
 
--- the same with the limit of every line
+-- ---- type_char: it is that with the limit of every line
 
-pub char_ignored : (l old : List ℕ) (h : Head) (ch : ℕ) (u : Bool) → Copied l old → h ≡ head_of old → u ≡ printable ch → not u ≡ true
+pub typed_ignored : (l old : List ℕ) (h : Head) (ch : ℕ) (u : Bool) → Copied l old → h ≡ head_of old → u ≡ printable ch → not u ≡ true
     → Leaves (apply (TypeChar ch) (screen_of old)) l l h
-unfolding apply rule
-char_ignored l old h ch u = typed_ignored l old h ch MAX-LOGICAL u
+unfolding apply rule type_char type_at type_limited type_within
+typed_ignored l old h ch u = limited_ignored l old h ch MAX-LOGICAL u
 
-pub char_done : (l m old : List ℕ) (g : Head) (ch : ℕ) (u : Bool) (t : Text) → u ≡ printable ch → not u ≡ false
+pub typed_done : (l m old : List ℕ) (g : Head) (ch : ℕ) (u : Bool) (t : Text) → u ≡ printable ch → not u ≡ false
     → Holds t (content (screen_of old)) (index (screen_of old)) → Leaves (type_at (screen_of old) (text_of t) t.index ch) l m g
     → Leaves (apply (TypeChar ch) (screen_of old)) l m g
-unfolding apply rule
-char_done l m old g ch u t = typed_done l m old g ch MAX-LOGICAL u t
+unfolding apply rule type_char type_at type_limited type_within
+typed_done l m old g ch u t = limited_done l m old g ch MAX-LOGICAL u t
 
 -- ---- delete_char, backspace: t is the content, t' what is spliced in
 

@@ -15,7 +15,43 @@ use line::span::{Span, span_at};
 use line::splice::splice_logical;
 use line::text::{MAX_LOGICAL, Text};
 
-// ch in the content t: inserted, over the character that stands at the cursor, or behind the last one; a content of limit characters or more does not grow.
+// ch in the content t: inserted, over the character that stands at the cursor, or behind the last one.
+#[tactic(auto, using(crate::proofs::TypingLaws::insert_full, crate::proofs::TypingLaws::extend_full))]
+fn type_at(rec: &mut [u8], old: &[u8], h: Head, span: Span, t: Text, ch: u8) -> Head
+    requires { Begun rec.old old.now h × SpanIs old.now h h.cursor.row span.start span.end × Sound t }
+    ensures { Leaves (type_at (screen_of old.now) (text_of t) t.index ch) rec.old rec.new result }
+{
+    if h.insert == 1 {
+        if t.len >= MAX_LOGICAL {
+            return h;
+        }
+        return splice_logical(rec, old, h, span, t.inserted(ch));
+    }
+    if t.index < t.len {
+        return splice_logical(rec, old, h, span, t.replaced(ch));
+    }
+    if t.len >= MAX_LOGICAL {
+        return h;
+    }
+    splice_logical(rec, old, h, span, t.extended(ch))
+}
+
+pub fn type_char(rec: &mut [u8], old: &[u8], ch: u8) -> Head
+    requires { Copied rec.old old.now }
+    ensures { Leaves (apply (TypeChar ch) (screen_of old.now)) rec.old rec.new result }
+{
+    let h = head::read_head(old);
+    if !grid::valid::is_printable(ch) {
+        return h;
+    }
+    let span = span_at(old, h, h.cursor.row);
+    let t = content_and_cursor(old, h, span);
+    type_at(rec, old, h, span, t, ch)
+}
+
+// ---- document 02, (g)
+
+// As `type_at`, with a limit in the place of MAX_LOGICAL.
 fn type_within(
     rec: &mut [u8],
     old: &[u8],
@@ -35,21 +71,14 @@ fn type_within(
         }
         return h;
     }
-    if t.index < t.len {
+    let over = t.index < t.len;
+    if over {
         return splice_logical(rec, old, h, span, t.replaced(ch));
     }
     if t.len >= limit {
         return h;
     }
     splice_logical(rec, old, h, span, t.extended(ch))
-}
-
-// The same with the limit of every line.
-fn type_at(rec: &mut [u8], old: &[u8], h: Head, span: Span, t: Text, ch: u8) -> Head
-    requires { Begun rec.old old.now h × SpanIs old.now h h.cursor.row span.start span.end × Sound t }
-    ensures { Leaves (type_at (screen_of old.now) (text_of t) t.index ch) rec.old rec.new result }
-{
-    type_within(rec, old, h, span, t, ch, MAX_LOGICAL)
 }
 
 pub fn type_limited(rec: &mut [u8], old: &[u8], ch: u8, limit: usize) -> Head
@@ -63,19 +92,6 @@ pub fn type_limited(rec: &mut [u8], old: &[u8], ch: u8, limit: usize) -> Head
     let span = span_at(old, h, h.cursor.row);
     let t = content_and_cursor(old, h, span);
     type_within(rec, old, h, span, t, ch, limit)
-}
-
-pub fn type_char(rec: &mut [u8], old: &[u8], ch: u8) -> Head
-    requires { Copied rec.old old.now }
-    ensures { Leaves (apply (TypeChar ch) (screen_of old.now)) rec.old rec.new result }
-{
-    let h = head::read_head(old);
-    if !grid::valid::is_printable(ch) {
-        return h;
-    }
-    let span = span_at(old, h, h.cursor.row);
-    let t = content_and_cursor(old, h, span);
-    type_at(rec, old, h, span, t, ch)
 }
 
 pub fn delete_char(rec: &mut [u8], old: &[u8]) -> Head

@@ -87,6 +87,7 @@ fn narrow_row_ok(rec: &[u8], r: usize) -> bool
     first + last == 0
 }
 
+#[tactic(auto, using(crate::proofs::ValidLaws::row_of_80, crate::proofs::ValidLaws::row_of_40))]
 fn row_ok(rec: &[u8], r: usize, w: usize) -> bool
     requires { (length rec.now ≡ SIZE) × (r < 25) × IsWidth w }
     ensures { result ≡ valid_row w (row_of rec.now r) }
