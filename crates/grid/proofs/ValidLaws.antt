@@ -1,6 +1,6 @@
 -- `valid`: the test of a record's layout, on each way out.
 -- The premises of a law here are what the code has at hand in that place: the `requires`, the tests on the way, what callees ensure, and the
--- invariant. So a proof says `search (needs, LAW)` and names no path: antt finds the premises among the fields of `c`.
+-- invariant. So a proof says `search (rules, LAW)` and names no path: antt finds the premises among the fields of `c`.
 -- Assumes nothing.
 use Prim.Native.Nat.{ℕ, ◌+◌, ◌-◌, ◌*◌, ◌<◌, ◌≤◌, ◌/◌, ◌%◌}
 use mathlib.Core.Path.{◌≡◌, refl, sym, ap, ap₂, ◌∙◌}

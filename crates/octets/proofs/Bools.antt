@@ -67,7 +67,7 @@ pick b x y e = rw e
 pub skip : {A : Type 0} (b : Bool) (x y : A) → b ≡ false → (if b then x else y) ≡ y
 skip b x y e = rw e
 
--- what the code answers is the choice that the definition makes: `search (needs, choice)`, with the definition on the `unfolding` line
+-- what the code answers is the choice that the definition makes: `search (rules, choice)`, with the definition on the `unfolding` line
 pub picked : {A : Type 0} (b : Bool) (x y z : A) → b ≡ true → x ≡ y → x ≡ (if b then y else z)
 picked b x y z e h = h ∙ sym (pick b y z e)
 

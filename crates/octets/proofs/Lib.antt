@@ -1,4 +1,4 @@
--- The laws of `bytes`' definitions, which its proofs and those of the crates above cite.
+-- The laws of `octets`' definitions, which its proofs and those of the crates above cite.
 pub mod Bools
 pub mod Found
 pub mod Tables

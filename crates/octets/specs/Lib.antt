@@ -1,4 +1,4 @@
--- The definitions that the contracts of `bytes` and of the crates above it cite.
+-- The definitions that the contracts of `octets` and of the crates above it cite.
 pub mod Test
 pub mod Width
 pub mod Table

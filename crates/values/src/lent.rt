@@ -1,8 +1,6 @@
 // The four arrows on a cursor that is lent by `&mut`, in w columns and e rows, as the Rust has them. Each takes the cursor's two
 // numbers out, calls the move that hands the new cursor back, and stores both.
-//
-// The borrow checker does not cover a reference to a struct: the proofs are by hand, over one walk (`proofs/LentLaws.antt`) that goes by
-// the order of the statements and by the parameters. So all four take w and e, needed or not.
+// All four take w and e, needed or not, so that a caller may choose among them.
 ghost use Rattle.std.specs.Prelude.{◌≡◌, ◌<◌};
 ghost use Rattle.values.specs.Cursor.{left, right, up, down};
 
