@@ -1,13 +1,12 @@
 -- Tests: conjunctions, and a test of each element.
 -- Assumes nothing.
-use Prim.Native.Nat.{ℕ, zero, suc, ◌+◌, ◌<◌}
+use Prim.Native.Nat.{ℕ, zero, suc, ◌<◌}
 use mathlib.Core.Path.{◌≡◌, refl, sym, ap, ◌∙◌}
 use mathlib.Core.Bool.{Bool, true, false, ◌&&◌, ◌||◌, and-true, true≢false, not-eq-not}
 use mathlib.Core.List.{List, [], ◌∷◌, ◌++◌}
 use mathlib.Core.Logic.{◌↔◌, ◌⊎◌, inl, inr, ⊎_elim}
 use native.Mathlib.Nat.{le_of_suc-le-suc, not-suc-le-zero}
 use native.Mathlib.Omega.{arith}
-use lib.Dec.{eqb}
 use lib.ListN.{length, get_or, take, drop, set, replicate}
 use borrow.Author.Tests.{eqb-true, lt-ltb, le-ltb, le-leb, lt-leb, eq-eqb, ne_eqb}
 use Rattle.std.specs.Prelude.{if◌then◌else◌}
@@ -77,13 +76,6 @@ skipped b x y z e h = h ∙ sym (skip b y z e)
 pub ruleset choice = (picked, skipped, lt-ltb, le-ltb, le-leb, lt-leb, eq-eqb, ne_eqb)
 
 -- ---- a test of each element
-
--- a turn of a loop that counts what does not pass
-pub count_turn : (bad k : ℕ) (a p : Bool) → eqb bad 0 ≡ a → k ≡ (if p then 0 else 1) → eqb (bad + k) 0 ≡ a && p
-count_turn bad k a true e h =
-    let z : bad + k ≡ bad = omega arith in
-    rw z (e ∙ sym (and-true a))
-count_turn bad k a false e h = ne_eqb (bad + k) 0 (λ q. omega arith) ∙ sym (and_false a false refl)
 
 module _ {ℓ} {A : Type ℓ} (p : A → Bool) where
   pub every_append : (xs ys : List A) → every p (xs ++ ys) ≡ every p xs && every p ys

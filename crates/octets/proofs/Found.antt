@@ -11,8 +11,10 @@ use lib.Dec.{leb, ltb, eqb}
 use lib.ListN.{length, get_or}
 use borrow.Author.Tests.{leb-true, ltb-true, eqb-true, eqb-false, eq-eqb, ne_eqb, ltb-false, le-ltb, lt-ltb, le-leb}
 use Rattle.std.specs.Prelude.{if◌then◌else◌}
-use Rattle.octets.specs.Answer.{refused, Written, Writes, unless, is_refusal}
-use Rattle.octets.specs.Refusals.{order, place_in, Before, Refuses, first_of, all_pass, refused_with, or_else}
+use Rattle.octets.specs.Answer.{refused, number_of, Written, Writes, unless, is_refusal}
+use Rattle.octets.specs.declared.answer.Refusal.{Refusal}
+use Rattle.octets.specs.declared.answer.Refusal.TheVariants.{WrongLength, BrokenLayout, OutOfRange, SpentSerial, BrokenReport, WidthWithoutRows, LongInput, SplitLineEnd}
+use Rattle.octets.specs.Refusals.{order, place_in, Before, Refuses, first_of, all_pass, or_else}
 use Rattle.octets.proofs.Bools.{and_left, and_right, and_both, cases, pick, skip}
 
 -- ---- the order
@@ -229,26 +231,6 @@ pass_append ((k, false) ∷ xs) ys = refl
 
 -- ---- answers
 
-pub refused_none : (k : ℕ) → refused_with k ≡ 0 → k ≡ 0
-unfolding refused_with
-refused_none k e = cases (λ (n : ℕ). n ≡ 0 → k ≡ 0) (eqb k 0) 0 (refused k) (λ t q. eqb-true k 0 t) (λ t q. absurd (omega arith)) e
-
-pub refused_some : (k : ℕ) → k ≢ 0 → refused_with k ≡ refused k
-unfolding refused_with
-refused_some k n = skip (eqb k 0) 0 (refused k) (ne_eqb k 0 n)
-
-pub refused_zero : refused_with 0 ≡ 0
-unfolding refused_with
-refused_zero = pick (eqb 0 0) 0 (refused 0) refl
-
--- an answer n that is not 0, of refusal k
-module _ (k n : ℕ) (is : n ≡ refused_with k) (ne : n ≢ 0) where
-  pub refusal_some : k ≢ 0
-  refusal_some e = ne (is ∙ ap refused_with e ∙ refused_zero)
-
-  pub refusal_number : n ≡ refused k
-  refusal_number = is ∙ refused_some k refusal_some
-
 pub else_here : (n m : ℕ) → n ≢ 0 → n ≡ or_else n m
 unfolding or_else
 else_here n m h = sym (skip (eqb n 0) m n (ne_eqb n 0 h))
@@ -261,28 +243,12 @@ pub else_none : (n m : ℕ) → or_else n m ≡ 0 → (n ≡ 0) × (m ≡ 0)
 unfolding or_else
 else_none n m e = cases (λ (x : ℕ). x ≡ 0 → (n ≡ 0) × (m ≡ 0)) (eqb n 0) m n (λ t q. (eqb-true n 0 t, q)) (λ t q. absurd (eqb-false n 0 t q)) e
 
--- the answers of two lists of tests, one after the other
-pub answer_append : (p : ℕ) (xs ys : List (ℕ × Bool)) → ordered p xs ≡ true
-    → refused_with (first_of (xs ++ ys)) ≡ or_else (refused_with (first_of xs)) (refused_with (first_of ys))
-unfolding first_of
-answer_append p [] ys o = else_past (refused_with 0) (refused_with (first_of ys)) (unfold refused_with in refl)
-answer_append p ((k, true) ∷ xs) ys o = answer_append (place_in order k) xs ys (ordered_rest p k true xs o)
-answer_append p ((k, false) ∷ xs) ys o =
-    let n = placed k (ordered_here p k false xs o).place in
-    else_here (refused_with k) (refused_with (first_of ys)) (λ e. n (refused_none k e))
-
 -- ---- `unless`: n is what the tests of refusals have answered
 
 module _ (k : ℕ) (l : List ℕ) (o : Written) where
   pub unless_none : k ≡ 0 → unless k l o ≡ o
   unfolding unless
   unless_none e = pick (eqb k 0) _ _ (eq-eqb k 0 e)
-
-  pub unless_refused : (n : ℕ) → n ≡ refused_with k → n ≢ 0 → Writes (unless k l o) n l
-  unfolding unless
-  unless_refused n is ne =
-      let e = skip (eqb k 0) o (record { number = refused k; bytes = l }) (ne_eqb k 0 (refusal_some k n is ne)) in
-      record { number = refusal_number k n is ne ∙ ap (λ (x : Written). x.number) (sym e); left = ap (λ (x : Written). x.bytes) (sym e) }
 
   pub unless_done : k ≡ 0 → (n : ℕ) (m : List ℕ) → Writes o n m → Writes (unless k l o) n m
   unless_done e n m w = rw (unless_none e) w
@@ -300,3 +266,34 @@ refusal_from n e = ltb-true (refused 0) n e
 pub is_accepted : (n : ℕ) → is_refusal n ≡ false → n < refused 1
 unfolding is_refusal
 is_accepted n e = let h = ltb-false (refused 0) n e in omega arith
+
+-- ---- what the code answers: a Result, whose refusal e the tests have found
+
+pub number_some : (e : Refusal) → number_of e ≢ 0
+number_some WrongLength q = omega (arith, q)
+number_some BrokenLayout q = omega (arith, q)
+number_some OutOfRange q = omega (arith, q)
+number_some SpentSerial q = omega (arith, q)
+number_some BrokenReport q = omega (arith, q)
+number_some WidthWithoutRows q = omega (arith, q)
+number_some LongInput q = omega (arith, q)
+number_some SplitLineEnd q = omega (arith, q)
+
+-- k is the number of the first condition that holds
+module _ (k : ℕ) (l : List ℕ) (o : Written) where
+  pub unless_err : (e : Refusal) → number_of e ≡ k → Writes (unless k l o) (refused (number_of e)) l
+  unfolding unless
+  unless_err e is =
+      let some : k ≢ 0 = λ q. number_some e (is ∙ q) in
+      let f = skip (eqb k 0) o (record { number = refused k; bytes = l }) (ne_eqb k 0 some) in
+      record { number = ap refused is ∙ ap (λ (x : Written). x.number) (sym f); left = ap (λ (x : Written). x.bytes) (sym f) }
+
+  pub unless_ok : 0 ≡ k → (n : ℕ) (m : List ℕ) → Writes o n m → Writes (unless k l o) n m
+  unless_ok e n m w = unless_done k l o (sym e) n m w
+
+-- two lists of tests, one after the other: the first that fails of the first list, or else of the second
+pub first_append : (p : ℕ) (xs ys : List (ℕ × Bool)) → ordered p xs ≡ true → first_of (xs ++ ys) ≡ or_else (first_of xs) (first_of ys)
+unfolding first_of
+first_append p [] ys o = else_past 0 (first_of ys) refl
+first_append p ((k, true) ∷ xs) ys o = first_append (place_in order k) xs ys (ordered_rest p k true xs o)
+first_append p ((k, false) ∷ xs) ys o = else_here k (first_of ys) (placed k (ordered_here p k false xs o).place)

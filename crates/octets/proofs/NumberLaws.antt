@@ -1,19 +1,17 @@
 -- `number`: numbers of two and of four bytes, written and read back.
 -- Assumes nothing.
-use Prim.Native.Nat.{ℕ, zero, suc, ◌+◌, ◌*◌, ◌/◌, ◌%◌, ◌≤◌, ◌<◌}
-use mathlib.Core.Path.{◌≡◌, sym, ap}
+use Prim.Native.Nat.{ℕ, ◌+◌, ◌*◌, ◌/◌, ◌%◌, ◌≤◌, ◌<◌}
+use mathlib.Core.Path.{◌≡◌}
 use mathlib.Core.Bool.{true}
 use mathlib.Core.List.{List, [], ◌∷◌}
-use native.Mathlib.Nat.{div-add-mod', suc-add}
+use native.Mathlib.Nat.{div-add-mod'}
 use native.Mathlib.Omega.{arith}
-use lib.ListN.{length, get_or, set}
+use lib.ListN.{length, get_or}
 use lib.Pow.{shr-shr}
 use borrow.Author.Tests.{ltb-true}
 use Rattle.octets.specs.Test.{every, is_byte}
 use Rattle.octets.specs.Number.{number4, bytes4, number2, four_at, bytes2}
-use Rattle.octets.specs.Part.{write}
 use Rattle.octets.proofs.Bools.{every_at}
-use Rattle.octets.proofs.PartLaws.{write_none}
 
 pub is_byte_lt : (l : List ℕ) (i : ℕ) → every is_byte l ≡ true → i < length l → get_or l i 0 < 256
 unfolding is_byte
@@ -41,19 +39,6 @@ four_back a b c d ha hb hc hd =
     let e₂ : n / 65536 ≡ a * 256 + b = omega arith in
     let e₃ : n / 16777216 ≡ a = omega arith in
     (rw e₃ (omega arith), rw e₂ (omega arith), rw e₁ (omega arith), omega arith)
-
--- `put4`
-pub four : (l : List ℕ) (at n : ℕ) → at + 4 ≤ length l
-    → set (set (set (set l at (n / 16777216 % 256)) (at + 1) (n / 65536 % 256)) (at + 2) (n / 256 % 256)) (at + 3) (n % 256) ≡ write l at (bytes4 n)
-unfolding write
-four [] at n h = absurd (omega arith)
-four (x ∷ l) (suc at) n h =
-    let e : (k : ℕ) → suc at + k ≡ suc (at + k) = λ k. suc-add at k in
-    rw (e 1, e 2, e 3) (ap (λ (r : List ℕ). x ∷ r) (four l at n (omega arith)))
-four (a ∷ []) zero n h = absurd (omega arith)
-four (a ∷ b ∷ []) zero n h = absurd (omega arith)
-four (a ∷ b ∷ c ∷ []) zero n h = absurd (omega arith)
-four (a ∷ b ∷ c ∷ d ∷ l) zero n h = sym (rw (write_none l zero))
 
 pub whole2 : (n : ℕ) → n < 65536 → n / 256 % 256 * 256 + n % 256 ≡ n
 whole2 n h = omega arith

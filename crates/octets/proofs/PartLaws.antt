@@ -2,13 +2,15 @@
 -- `-before` and `-after` say where what is looked at lies: before what is written, or after it.
 -- Assumes nothing.
 use mathlib.Core.Path.{◌≡◌, refl, sym, ap, ◌∙◌}
-use mathlib.Core.List.{List, [], ◌∷◌, ◌++◌, append-nil}
+use mathlib.Core.List.{List, [], ◌∷◌, ◌++◌}
 use Prim.Native.Nat.{ℕ, zero, suc, ◌+◌, ◌-◌, ◌≤◌, ◌<◌}
 use native.Mathlib.Nat.{zero-add, suc-add, le_of_suc-le-suc, not-suc-le-zero}
-use native.Mathlib.Numerals.{add-one}
 use native.Mathlib.Omega.{arith}
-use lib.ListN.{length, get_or, take, drop, set, replicate, length-set, length-drop, length-replicate, replicate-append-replicate, drop_of_length-le}
-use lib.Seq.{get_or-take, get_or-drop, take-suc, drop-cons, ext_get_or, drop-set-lt, drop-set-add, take-set-lt, get_or-set_other, length-take-le, take_all, take-take, take-nil, drop-drop}
+use lib.ListN.{length, get_or, take, drop, set, length-set, length-drop}
+use lib.Seq.{get_or-take, get_or-drop, ext_get_or, drop-set-lt, drop-set-add, take-set-lt, get_or-set_other, length-take-le, take-take, take-nil, drop-drop}
+use borrow.Rule.Slice.PartMut.{put_mid}
+use Rattle.std.proofs.Common.{append_assoc}
+use Rattle.std.specs.List.{copy_within}
 use Rattle.octets.specs.Part.{window, write}
 
 -- ---- a window
@@ -20,16 +22,6 @@ length_window l a n h = length-take-le n (drop a l) (rw length-drop (omega arith
 pub get_d_window : (l : List ℕ) (a n i : ℕ) → i < n → get_or (window l a n) i 0 ≡ get_or l (a + i) 0
 unfolding window
 get_d_window l a n i h = rw (get_or-take, get_or-drop)
-
-pub window_none : (l : List ℕ) (a : ℕ) → window l a 0 ≡ []
-unfolding window
-window_none l a = refl
-
-pub window_more : (l : List ℕ) (a n : ℕ) → a + n < length l → window l a (n + 1) ≡ window l a n ++ (get_or l (a + n) 0 ∷ [])
-unfolding window
-window_more l a n h =
-    let k : n < length (drop a l) = rw length-drop (omega arith) in
-    rw (add-one, take-suc (drop a l) n 0, get_or-drop)
 
 -- two windows are equal where each byte is
 pub window_ext : (l m : List ℕ) (a n : ℕ) → a + n ≤ length l → a + n ≤ length m
@@ -160,109 +152,37 @@ module _ (l : List ℕ) (a : ℕ) (s : List ℕ) where
       get_d_window (write l a s) (a + j) n i p ∙ ap (λ (x : ℕ). get_or (write l a s) x 0) (omega arith)
       ∙ get_d_write_in l a s (j + i) (omega arith) (omega arith) ∙ sym (get_d_window s j n i p))
 
--- ---- the turns of the loops
+-- ---- written at once
 
-pub copy_turn : (l src m : List ℕ) (from to n i : ℕ) → from + n ≤ length src → i < n
-    → m ≡ write l to (window src from i) → set m (to + i) (get_or src (from + i) 0) ≡ write l to (window src from (i + 1))
-copy_turn l src m from to n i h p e =
-    let s : List ℕ = window src from i in
-    let k : length s ≡ i = length_window src from i (omega arith) in
-    rw e
-    (ap (λ (j : ℕ). set (write l to s) (to + j) (get_or src (from + i) 0)) (sym k)
-    ∙ write_more l to s (get_or src (from + i) 0)
-    ∙ ap (write l to) (sym (window_more src from i (omega arith))))
-
--- within one list, to an earlier place: the byte that is read is still the first one
-pub copy_up_turn : (l m : List ℕ) (from to n i : ℕ) → from + n ≤ length l → to ≤ from → i < n
-    → m ≡ write l to (window l from i) → set m (to + i) (get_or m (from + i) 0) ≡ write l to (window l from (i + 1))
-copy_up_turn l m from to n i h side p e =
-    let k : length (window l from i) ≡ i = length_window l from i (omega arith) in
-    let v : get_or m (from + i) 0 ≡ get_or l (from + i) 0 =
-    ap (λ (x : List ℕ). get_or x (from + i) 0) e ∙ get_d_write_after l to (window l from i) (from + i) (omega arith) in
-    rw v (copy_turn l l m from to n i h p e)
-
--- from the last byte to the first: what is written so far are the bytes from i on, and the byte that is read is still the first one
-pub cons_write : (l : List ℕ) (a v : ℕ) (s : List ℕ) → set (write l (a + 1) s) a v ≡ write l a (v ∷ s)
+-- what a list is in which k elements from index a on have given way to s
+pub put_write : (l : List ℕ) (a : ℕ) (s : List ℕ) (k : ℕ) → k ≡ length s → a + k ≤ length l → take a l ++ (s ++ drop (a + k) l) ≡ write l a s
 unfolding write
-cons_write [] a v s = refl
-cons_write (x ∷ l) zero v s = refl
-cons_write (x ∷ l) (suc a) v s = ap (λ (i : ℕ). set (write (x ∷ l) i s) (suc a) v) (suc-add a 1) ∙ ap (λ (r : List ℕ). x ∷ r) (cons_write l a v s)
+put_write [] zero [] k e h = rw e
+put_write [] zero (y ∷ s) k e h = absurd (omega arith)
+put_write [] (suc a) s k e h = absurd (omega arith)
+put_write (x ∷ l) (suc a) s k e h = rw suc-add (ap (λ (r : List ℕ). x ∷ r) (put_write l a s k e (omega arith)))
+put_write (x ∷ l) zero [] k e h = rw e
+put_write (x ∷ l) zero (y ∷ s) k e h =
+    let f : 0 + k ≡ suc (0 + length s) = omega arith in
+    rw f (ap (λ (r : List ℕ). y ∷ r) (put_write l zero s (length s) refl (omega arith)))
 
-pub window_less : (l : List ℕ) (a n : ℕ) → a < length l → window l a (n + 1) ≡ get_or l a 0 ∷ window l (a + 1) n
+-- as std's writes of a part leave it
+pub put_part : (l : List ℕ) (a n : ℕ) (t s : List ℕ) → t ≡ s → length s ≡ n → a + n ≤ length l → put_mid a (a + n - a) l t ≡ write l a s
+put_part l a n t s e k h =
+    let f : a + n - a ≡ n = omega arith in
+    rw (f, e, drop-drop n a l) (put_write l a s n (sym k) h)
+
+-- a part of a slice, as `s[a..a + n]` is read
+pub part_window : (l : List ℕ) (a n : ℕ) → take (a + n - a) (drop a l) ≡ window l a n
 unfolding window
-window_less l a n h = rw (add-one n, add-one a, drop-cons l a 0)
-
-pub copy_down_turn : (l m : List ℕ) (from to n i : ℕ) → from + n ≤ length l → from ≤ to → 1 ≤ i → i ≤ n
-    → m ≡ write l (to + i) (window l (from + i) (n - i))
-    → set m (to + (i - 1)) (get_or m (from + (i - 1)) 0) ≡ write l (to + (i - 1)) (window l (from + (i - 1)) (n - (i - 1)))
-copy_down_turn l m from to n i h side p q e =
-    let j : ℕ = i - 1 in
-    let e₁ : to + i ≡ to + j + 1 = omega arith in
-    let e₂ : from + i ≡ from + j + 1 = omega arith in
-    let e₃ : n - j ≡ n - i + 1 = omega arith in
-    let m' : m ≡ write l (to + j + 1) (window l (from + j + 1) (n - i)) = rw (e₁, e₂) at e in
-    let v : get_or m (from + j) 0 ≡ get_or l (from + j) 0 =
-    ap (λ (k : List ℕ). get_or k (from + j) 0) m' ∙ get_d_write_before l (to + j + 1) (window l (from + j + 1) (n - i)) (from + j) (omega arith)
-    in
-    rw (v, m', e₃, window_less l (from + j) (n - i) (omega arith)) (cons_write l (to + j) (get_or l (from + j) 0) (window l (from + j + 1) (n - i)))
-
-pub fill_turn : (l m : List ℕ) (at v i : ℕ) → m ≡ write l at (replicate i v) → set m (at + i) v ≡ write l at (replicate (i + 1) v)
-fill_turn l m at v i e =
+part_window l a n =
+    let e : a + n - a ≡ n = omega arith in
     rw e
-    (ap (λ (j : ℕ). set (write l at (replicate i v)) (at + j) v) (sym (length-replicate i v))
-    ∙ write_more l at (replicate i v) v
-    ∙ ap (write l at) (replicate-append-replicate i 1 v))
 
--- what is written, with what stands before it
-pub take_written : (l : List ℕ) (a : ℕ) (s : List ℕ) → a + length s ≤ length l → take (a + length s) (write l a s) ≡ take a l ++ s
-unfolding write
-take_written [] zero [] h = refl
-take_written [] zero (y ∷ s) h = absurd (omega arith)
-take_written [] (suc a) s h = absurd (omega arith)
-take_written (x ∷ l) (suc a) s h = rw suc-add (ap (λ (r : List ℕ). x ∷ r) (take_written l a s (omega arith)))
-take_written (x ∷ l) zero [] h = refl
-take_written (x ∷ l) zero (y ∷ s) h =
-    let e : 0 + length (y ∷ s) ≡ suc (0 + length s) = omega arith in
-    rw e (ap (λ (r : List ℕ). y ∷ r) (take_written l zero s (omega arith)))
-
--- ---- where the loops of `part` begin and end
-
-module _ (l src : List ℕ) (from to : ℕ) where
-  pub copy_start : l ≡ write l to (window src from 0)
-  copy_start = sym (rw (window_none, write_none))
-
-  pub copy_end : (m : List ℕ) (n i : ℕ) → i ≤ n → n ≤ i → m ≡ write l to (window src from i) → m ≡ write l to (window src from n)
-  copy_end m n i h k e =
-      let done : i ≡ n = omega arith in
-      rw done at e
-
-module _ (l : List ℕ) (from to : ℕ) where
-  pub copy_up_start : l ≡ write l to (window l from 0)
-  copy_up_start = copy_start l l from to
-
-  pub copy_up_end : (m : List ℕ) (n i : ℕ) → i ≤ n → n ≤ i → m ≡ write l to (window l from i) → m ≡ write l to (window l from n)
-  copy_up_end = copy_end l l from to
-
-  pub copy_down_start : (n : ℕ) → l ≡ write l (to + n) (window l (from + n) (n - n))
-  copy_down_start n =
-      let none : n - n ≡ 0 = omega arith in
-      sym (rw (none, window_none, write_none))
-
-  pub copy_down_end : (m : List ℕ) (n i : ℕ) → i ≤ 0 → m ≡ write l (to + i) (window l (from + i) (n - i)) → m ≡ write l to (window l from n)
-  copy_down_end m n i h e =
-      let e₁ : to + i ≡ to = omega arith in
-      let e₂ : from + i ≡ from = omega arith in
-      let e₃ : n - i ≡ n = omega arith in
-      rw (e₁, e₂, e₃) at e
-
-module _ (l : List ℕ) (at v : ℕ) where
-  pub fill_start : l ≡ write l at (replicate 0 v)
-  fill_start = sym (write_none l at)
-
-  pub fill_end : (m : List ℕ) (n i : ℕ) → i ≤ n → n ≤ i → m ≡ write l at (replicate i v) → m ≡ write l at (replicate n v)
-  fill_end m n i h k e =
-      let done : i ≡ n = omega arith in
-      rw done at e
+pub put_along : (l : List ℕ) (from to n : ℕ) → from + n ≤ length l → to + n ≤ length l → copy_within l from (from + n) to ≡ write l to (window l from n)
+put_along l from to n h k =
+    let f : from + n - from ≡ n = omega arith in
+    rw (f, append_assoc) (unfold window in put_write l to (window l from n) n (sym (length_window l from n h)) k)
 
 -- ---- a whole part
 
@@ -281,13 +201,6 @@ write_front [] [] h = refl
 write_front [] (z ∷ t) h = absurd (not-suc-le-zero h)
 write_front (y ∷ s) [] h = refl
 write_front (y ∷ s) (z ∷ t) h = ap (λ (r : List ℕ). z ∷ r) (write_front s t (le_of_suc-le-suc h))
-
--- `snapshot`
-pub all_copied : (l m s : List ℕ) (n : ℕ) → length l ≡ n → length s ≡ n → m ≡ write l 0 (window s 0 n) → m ≡ s
-unfolding window
-all_copied l m s n hl hs e =
-    let t : take n s ≡ s = take_all n s (omega arith) in
-    e ∙ ap (write l 0) t ∙ write_front l s (omega arith) ∙ ap (λ (r : List ℕ). s ++ r) (drop_of_length-le l {i = length s} (omega arith)) ∙ append-nil s
 
 pub take_window : (l : List ℕ) (a w n : ℕ) → w ≤ n → take w (window l a n) ≡ window l a w
 unfolding window

@@ -1,10 +1,37 @@
 -- Document 01, "What a call answers": the number of a refusal, and what a call leaves in a slice that it writes.
 -- Assumes nothing.
-use Rattle.std.specs.Prelude.{if◌then◌else◌, ℕ, ◌+◌, ◌≡◌, List, ◌++◌, length, drop, eqb, ltb, Bool}
+use Rattle.std.specs.Prelude.{if◌then◌else◌, ℕ, ◌+◌, ◌≡◌, List, ◌++◌, length, drop, eqb, ltb, Bool, Result, Ok, Err}
+use Rattle.octets.specs.declared.answer.Refusal.{Refusal}
+use Rattle.octets.specs.declared.answer.Refusal.TheVariants.{WrongLength, BrokenLayout, OutOfRange, SpentSerial, BrokenReport, WidthWithoutRows, LongInput, SplitLineEnd}
 
 -- the number that refusal k answers
 abbrev pub refused : ℕ → ℕ
 refused k = 4294967040 + k
+
+-- the documents' number of a refusal
+abbrev pub number_of : Refusal → ℕ
+number_of WrongLength = 1
+number_of BrokenLayout = 2
+number_of OutOfRange = 3
+number_of SpentSerial = 4
+number_of BrokenReport = 5
+number_of WidthWithoutRows = 6
+number_of LongInput = 7
+number_of SplitLineEnd = 13
+
+-- the number of the refusal that a test has found, 0 for none
+abbrev pub found : {A : Type 0} → Result A Refusal → ℕ
+found (Ok x) = 0
+found (Err e) = number_of e
+
+-- what a call answers, where the code says what it does, or why it is refused; and one that has nothing to tell
+abbrev pub answered : Result ℕ Refusal → ℕ
+answered (Ok n) = n
+answered (Err e) = refused (number_of e)
+
+abbrev pub done : Result Unit Refusal → ℕ
+done (Ok x) = 0
+done (Err e) = refused (number_of e)
 
 -- the number that a call answers, and the bytes that it leaves in the slice that it writes
 pub record Written : Type 0 where

@@ -38,10 +38,6 @@ unfoldable pub all_pass : List (ℕ × Bool) → Bool
 all_pass [] = true
 all_pass ((k, passes) ∷ tests) = passes && all_pass tests
 
--- what a call answers that is refused with k, and 0 where k is 0
-unfoldable pub refused_with : ℕ → ℕ
-refused_with k = if eqb k 0 then 0 else refused k
-
--- of two such answers the first that is a refusal's
+-- of two such numbers the first that is a refusal's
 unfoldable pub or_else : ℕ → ℕ → ℕ
 or_else n m = if eqb n 0 then m else n

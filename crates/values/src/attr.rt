@@ -2,7 +2,7 @@
 ghost use Rattle.std.specs.Prelude.{◌≡◌};
 ghost use Rattle.values.specs.Attr.{attr_of, byte_of};
 
-#[derive(Clone, Copy)]
+#[derive(Clone, Copy, PartialEq, Eq)]
 pub struct Attr {
     pub foreground: u8,
     pub background: u8,
@@ -13,20 +13,24 @@ impl Attr {
         foreground: 7,
         background: 0,
     };
+}
 
-    // Foreground is the low nibble and background is the high nibble.
-    pub fn new(byte: u8) -> Attr
-        ensures { result ≡ attr_of byte }
-    {
+// Foreground is the low nibble and background is the high nibble.
+impl From<u8> for Attr {
+    ghost from_gives = { λ byte attr. attr ≡ attr_of byte };
+
+    fn from(byte: u8) -> Attr {
         Attr {
             foreground: byte & 15,
             background: byte >> 4,
         }
     }
+}
 
-    pub fn byte(self) -> u8
-        ensures { result ≡ byte_of self }
-    {
-        ((self.background & 15) << 4) | (self.foreground & 15)
+impl From<Attr> for u8 {
+    ghost from_gives = { λ attr byte. byte ≡ byte_of attr };
+
+    fn from(attr: Attr) -> u8 {
+        ((attr.background & 15) << 4) | (attr.foreground & 15)
     }
 }

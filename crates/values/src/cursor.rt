@@ -2,9 +2,7 @@
 ghost use Rattle.std.specs.Prelude.{◌≡◌, ◌<◌};
 ghost use Rattle.values.specs.Cursor.{at, left, right, up, down, clamp};
 
-use octets::compare::smaller;
-
-#[derive(Clone, Copy)]
+#[derive(Clone, Copy, PartialEq, Eq)]
 pub struct Cursor {
     pub row: usize,
     pub col: usize,
@@ -16,7 +14,7 @@ impl Cursor {
     pub fn new(row: usize, col: usize) -> Cursor
         ensures { result ≡ at row col }
     {
-        Cursor { row: row, col: col }
+        Cursor { row, col }
     }
 
     // Over the row's start to the row above.
@@ -26,8 +24,8 @@ impl Cursor {
     {
         if 0 < self.col {
             return Cursor {
-                row: self.row,
                 col: self.col - 1,
+                ..self
             };
         }
         if 0 < self.row {
@@ -46,8 +44,8 @@ impl Cursor {
     {
         if self.col + 1 < w {
             return Cursor {
-                row: self.row,
                 col: self.col + 1,
+                ..self
             };
         }
         if self.row + 1 < e {
@@ -65,7 +63,7 @@ impl Cursor {
         if 0 < self.row {
             return Cursor {
                 row: self.row - 1,
-                col: self.col,
+                ..self
             };
         }
         self
@@ -79,7 +77,7 @@ impl Cursor {
         if row + 1 < e {
             return Cursor {
                 row: row + 1,
-                col: self.col,
+                ..self
             };
         }
         self
@@ -91,8 +89,8 @@ impl Cursor {
         ensures { result ≡ clamp w e self }
     {
         Cursor {
-            row: smaller(self.row, e - 1),
-            col: smaller(self.col, w - 1),
+            row: self.row.min(e - 1),
+            col: self.col.min(w - 1),
         }
     }
 
