@@ -1,36 +1,20 @@
 -- `fresh`: a new screen.
 -- Assumes nothing.
 use Prim.Native.Nat.{ℕ, ◌≤◌}
-use mathlib.Core.Path.{◌≡◌, refl, ap, ◌∙◌}
+use mathlib.Core.Path.{◌≡◌, ap, ◌∙◌}
 use mathlib.Core.List.{List, [], ◌++◌, append-nil}
 use native.Mathlib.Omega.{arith}
-use lib.Dec.{eqb}
 use lib.ListN.{drop, replicate, drop_of_length-le}
-use borrow.Author.Tests.{eq-eqb, ne_eqb}
 use Rattle.grid.specs.Layout.{FLAGS}
 use Rattle.grid.specs.Screen.{Row, blank_row, new_head, new_screen, new_state}
-use Rattle.values.specs.Cursor.{home}
 use Rattle.values.specs.Attr.{normal}
 use Rattle.grid.specs.Record.{rows_of, front_bytes, state_bytes, Becomes}
 use Rattle.grid.specs.Facts.{HeadFits}
 use Rattle.grid.specs.declared.head.Head.{Head}
-use Rattle.octets.proofs.Bools.{picked, skipped}
 use Rattle.grid.proofs.RowLaws.{length_rows}
 use Rattle.grid.proofs.Validity.{head_fits}
 use Rattle.grid.proofs.Keep.{new_head_facts}
 use Rattle.grid.proofs.Record.{left_bytes}
-
-pub head_40 : (w : ℕ) → w ≡ 40 → ◌≡◌ {A = Head} (record { width = 40; cursor = home; insert = 0; cr = 0; keys = 1; attr = normal }) (new_head w)
-unfolding new_head
-head_40 w h =
-    let e = picked {A = ℕ} (eqb w 40) 40 40 80 (eq-eqb w 40 h) refl in
-    λ i. record { width = e i; cursor = home; insert = 0; cr = 0; keys = 1; attr = normal }
-
-pub head_80 : (w : ℕ) → (w ≡ 40 → ⊥) → ◌≡◌ {A = Head} (record { width = 80; cursor = home; insert = 0; cr = 0; keys = 1; attr = normal }) (new_head w)
-unfolding new_head
-head_80 w h =
-    let e = skipped {A = ℕ} (eqb w 40) 80 40 80 (ne_eqb w 40 h) refl in
-    λ i. record { width = e i; cursor = home; insert = 0; cr = 0; keys = 1; attr = normal }
 
 pub new_width : (w : ℕ) (h : Head) → h ≡ new_head w → h.width ≤ 80
 new_width w h e = rw e (new_head_facts w).width_to

@@ -17,10 +17,9 @@ use Rattle.values.proofs.AttrLaws.{attr_back}
 use Rattle.grid.specs.Layout.{SIZE, VERSION, HEAD, PAIR, TOUCHED, FLAGS}
 use Rattle.grid.specs.Pair.{pair_bytes}
 use Rattle.grid.specs.Facts.{HeadFacts}
-use Rattle.grid.specs.Record.{head_at, bits_byte, head_bytes, pair_of, touched_of, stamp_of, front_bytes}
+use Rattle.grid.specs.Record.{head_at, bits_byte, head_bytes, front_bytes}
 use Rattle.grid.specs.declared.head.Head.{Head}
 use Rattle.grid.specs.declared.head.Stamp.{Stamp}
-use Rattle.grid.specs.declared.pair.Pair.{Pair}
 use Rattle.grid.proofs.Record.{heads_eq}
 
 -- `head_at`: w, r, c and a are what it has read of the width, the cursor and the attribute
@@ -75,11 +74,6 @@ headed l a byte bits h eb es =
     let e₅ = more (h.width ∷ h.cursor.row ∷ h.cursor.col ∷ bits_byte h.insert h.cr ∷ []) _ (a + 4) h.keys e₄ (omega arith) in
     let e₆ = more (h.width ∷ h.cursor.row ∷ h.cursor.col ∷ bits_byte h.insert h.cr ∷ h.keys ∷ []) _ (a + 5) (byte_of h.attr) e₅ (omega arith) in
     rw (eb, es) e₆
-
--- `read_stamp`
-pub stamp_read : (l : List ℕ) (p : Pair) (t : ℕ) → p ≡ pair_of l → t ≡ touched_of l → ◌≡◌ {A = Stamp} (record { pair = p; touched = t }) (stamp_of l)
-unfolding stamp_of
-stamp_read l p t ep et = λ j. record { pair = ep j; touched = et j }
 
 -- `write_front`
 pub fronted : (l m₁ m₂ m₃ : List ℕ) (h : Head) (s : Stamp) → length l ≡ SIZE → m₁ ≡ write l PAIR (pair_bytes s.pair)

@@ -15,7 +15,7 @@ use Rattle.values.specs.Attr.{byte_of, normal}
 use Rattle.octets.specs.Test.{every, zerob}
 use Rattle.grid.specs.Facts.{HeadFacts, RowFacts, RowsFacts, ScreenFacts}
 use Rattle.octets.proofs.Bools.{cases, every_both, every_cons, every_take, every_drop, every_at, every_set, every_replicate}
-use Rattle.grid.proofs.RowLaws.{length_padded}
+use Rattle.grid.proofs.RowLaws.{length_padded, blank_is}
 use Rattle.octets.proofs.WidthLaws.{width_from}
 use Rattle.grid.proofs.Validity.{editable_from, head_is, row_facts, row_valid}
 
@@ -89,13 +89,6 @@ module _ (w : ℕ) (cs : List ℕ) (fits : length cs ≤ w) (most : w ≤ 80) wh
         chars_rest = rw (spaced_is, drop_at line rest w length_line) (zeros (80 - w));
         attrs_rest = padded_rest w (byte_of attr);
       }
-
--- a blank row is the line row of no characters
-blank_is : (w : ℕ) (attr : Attr) → line_row w attr 0 [] ≡ blank_row w attr
-unfolding line_row blank_row spaced padded
-blank_is w attr =
-    let e : w - 0 ≡ w = omega arith in
-    rw e
 
 pub blank_row_valid : (w : ℕ) (attr : Attr) → w ≤ 80 → valid_row w (blank_row w attr) ≡ true
 unfolding every

@@ -8,17 +8,12 @@ use native.Mathlib.Omega.{arith}
 use lib.ListN.{length, get_or}
 use Rattle.octets.specs.Test.{every, is_byte}
 use Rattle.octets.specs.Part.{write}
-use Rattle.octets.specs.Number.{bytes4, four_at}
+use Rattle.octets.specs.Number.{bytes4}
 use Rattle.octets.proofs.NumberLaws.{whole4, four_bytes, four_lt}
 use Rattle.octets.proofs.PartLaws.{write_append}
 use Rattle.grid.specs.Facts.{PairFits}
 use Rattle.grid.specs.Pair.{pair_at, pair_bytes}
 use Rattle.grid.specs.declared.pair.Pair.{Pair}
-
--- `pair_at`
-pub pair_read : (l : List ℕ) (i g s : ℕ) → g ≡ four_at l (i + 4) → s ≡ four_at l i → ◌≡◌ {A = Pair} (record { sitting = g; serial = s }) (pair_at l i)
-unfolding pair_at
-pair_read l i g s eg es = λ j. record { sitting = eg j; serial = es j }
 
 -- `put_pair`
 pub paired : (l m n : List ℕ) (i : ℕ) (p : Pair) → m ≡ write l i (bytes4 p.serial) → n ≡ write m (i + 4) (bytes4 p.sitting) → n ≡ write l i (pair_bytes p)

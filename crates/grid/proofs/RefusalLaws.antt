@@ -1,18 +1,18 @@
--- `refusal`: what `record_refused` answers on each way out, and what is so where it answers 0.
+-- `refusal`: what `record` finds, and what is so where it finds nothing.
 -- Assumes nothing.
 use Prim.Native.Nat.{ℕ}
-use mathlib.Core.Path.{◌≡◌, refl, sym, ◌∙◌}
-use mathlib.Core.Bool.{Bool, true, false, not, ◌&&◌}
+use mathlib.Core.Path.{◌≡◌, refl, sym}
+use mathlib.Core.Bool.{Bool, true, false, ◌&&◌}
 use mathlib.Core.List.{List, [], ◌∷◌}
 use native.Mathlib.Omega.{arith}
 use mathlib.Core.Logic.{◌≢◌, ⊎_elim}
 use lib.Dec.{eqb}
 use lib.ListN.{length}
-use borrow.Author.Tests.{not-true, not-false, eq-eqb, ne_eqb, eqb-true, eqb-false}
-use Rattle.octets.specs.Answer.{refused}
-use Rattle.octets.specs.Refusals.{order, place_in, first_of, all_pass, refused_with}
+use borrow.Author.Tests.{eq-eqb, ne_eqb, eqb-true, eqb-false}
+use Rattle.std.specs.Prelude.{if◌then◌else◌}
+use Rattle.octets.specs.Refusals.{order, place_in, first_of, all_pass}
 use Rattle.octets.proofs.Bools.{and_left, and_right, and_false, left_false, and_cases}
-use Rattle.octets.proofs.Found.{First, Fails, none_first, ordered, refused_none, none_fails}
+use Rattle.octets.proofs.Found.{First, Fails, none_first, ordered, none_fails}
 use Rattle.octets.proofs.Found.Fails.{here, there}
 use Rattle.octets.proofs.Found.First.{now, later}
 use Rattle.grid.specs.Layout.{SIZE}
@@ -23,25 +23,15 @@ use Rattle.grid.specs.Refusals.{record_tests}
 use Rattle.grid.proofs.Validity.{valid_facts}
 use Rattle.grid.proofs.Conditions.{not_valid}
 
--- t is what `valid` has answered
+-- `record`: the slice has another length, or the length of a record
 module _ (l : List ℕ) (lengths : Bool) where
-  pub refused_length : (length l ≡ SIZE → ⊥) → refused 1 ≡ refused_with (first_of (record_tests lengths l))
-  unfolding record_tests first_of refused_with
-  refused_length ne = rw (ne_eqb (length l) SIZE ne)
+  pub size_refused : (length l ≡ SIZE → ⊥) → first_of (record_tests lengths l) ≡ 1
+  unfolding record_tests first_of
+  size_refused ne = rw (ne_eqb (length l) SIZE ne)
 
-  pub refused_lengths : length l ≡ SIZE → not lengths ≡ true → refused 1 ≡ refused_with (first_of (record_tests lengths l))
-  unfolding record_tests first_of refused_with
-  refused_lengths len n = rw (eq-eqb (length l) SIZE len, not-true lengths n)
-
-  pub refused_layout : (t : Bool) → length l ≡ SIZE → not lengths ≡ false → t ≡ validb l → not t ≡ true
-      → refused 2 ≡ refused_with (first_of (record_tests lengths l))
-  unfolding record_tests first_of refused_with
-  refused_layout t len m is n = rw (eq-eqb (length l) SIZE len, not-false lengths m, sym is ∙ not-true t n)
-
-  pub not_refused : (t : Bool) → length l ≡ SIZE → not lengths ≡ false → t ≡ validb l → not t ≡ false
-      → 0 ≡ refused_with (first_of (record_tests lengths l))
-  unfolding record_tests first_of refused_with
-  not_refused t len m is n = rw (eq-eqb (length l) SIZE len, not-false lengths m, sym is ∙ not-false t n)
+  pub tests_left : length l ≡ SIZE → first_of (record_tests lengths l) ≡ (if lengths then (if validb l then 0 else 2) else 1)
+  unfolding record_tests first_of
+  tests_left e = rw (eq-eqb (length l) SIZE e)
 
   pub record_ordered : ordered 0 (record_tests lengths l) ≡ true
   unfolding record_tests ordered place_in order
@@ -67,21 +57,16 @@ tests_taken lengths l e none =
       none = none;
     }
 
-pub taken : (lengths : Bool) (l : List ℕ) → refused_with (first_of (record_tests lengths l)) ≡ 0 → Taken lengths l
-taken lengths l e =
-    let none = refused_none _ e in
-    tests_taken lengths l (none_fails 0 (record_tests lengths l) (record_ordered l lengths) none) none
+pub taken : (lengths : Bool) (l : List ℕ) → first_of (record_tests lengths l) ≡ 0 → Taken lengths l
+taken lengths l e = tests_taken lengths l (none_fails 0 (record_tests lengths l) (record_ordered l lengths) e) e
 
--- n is what `record_refused` has answered
-module _ (lengths : Bool) (l : List ℕ) (n : ℕ) (is : n ≡ refused_with (first_of (record_tests lengths l))) (zero : n ≡ 0) where
-  pub size_known : length l ≡ SIZE
-  size_known = (taken lengths l (sym is ∙ zero)).size
-
+-- where `record` has refused nothing
+module _ (lengths : Bool) (l : List ℕ) (none : 0 ≡ first_of (record_tests lengths l)) where
   pub valid_known : Valid l
-  valid_known = (taken lengths l (sym is ∙ zero)).valid
+  valid_known = (taken lengths l (sym none)).valid
 
   pub lengths_known : lengths ≡ true
-  lengths_known = (taken lengths l (sym is ∙ zero)).lengths_taken
+  lengths_known = (taken lengths l (sym none)).lengths_taken
 
 -- ---- the conditions behind the tests: C is what a call's conditions say of them
 
@@ -105,17 +90,9 @@ module _ (l : List ℕ) (lengths : Bool) where
   unfolding record_tests
   layout_fails n = there (here ((not_valid l).0 n))
 
--- ---- `range_refused`
+-- ---- `in_range`
 
-pub range_in : (ok : Bool) → ok ≡ true → 0 ≡ refused_with (first_of ((3, ok) ∷ []))
-unfolding first_of refused_with
-range_in ok e = rw e
-
-pub range_out : (ok : Bool) → ok ≡ false → refused 3 ≡ refused_with (first_of ((3, ok) ∷ []))
-unfolding first_of refused_with
-range_out ok e = rw e
-
-pub range_tested : (ok : Bool) → refused_with (first_of ((3, ok) ∷ [])) ≡ 0 → ok ≡ true
+pub range_tested : (ok : Bool) → 0 ≡ first_of ((3, ok) ∷ []) → ok ≡ true
 unfolding first_of
 range_tested true e = refl
-range_tested false e = absurd (let q = refused_none 3 e in omega (arith, q))
+range_tested false e = absurd (omega arith)

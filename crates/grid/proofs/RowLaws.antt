@@ -1,7 +1,7 @@
 -- The laws of `row_of`, `rows_of` and `put_row`: all that a crate above has to know of where a row's bytes lie.
 -- Assumes nothing.
 use mathlib.Core.Path.{◌≡◌, sym, ap, ◌∙◌}
-use mathlib.Core.List.{List}
+use mathlib.Core.List.{List, []}
 use mathlib.Core.Logic.{◌≢◌, ◌⊎◌, inl, inr, ⊎_elim}
 use Prim.Native.Nat.{ℕ, ◌+◌, ◌*◌, ◌-◌, ◌≤◌, ◌<◌}
 use native.Mathlib.Decide.{ℕ_discrete, dec_lt}
@@ -10,13 +10,12 @@ use lib.ListN.{length, get_or, take, drop, set, length-set, length-append, lengt
 use lib.Seq.{ext_get_or, get_or-set_same, get_or-set_other, take-set-le, take-take}
 use Rattle.grid.specs.Layout.{SIZE, FLAGS, CHARS, ATTRS}
 use Rattle.values.specs.declared.attr.Attr.{Attr}
-use Rattle.grid.specs.Screen.{Row, padded, spaced, blank_row, line_row, put_cell, flag_row, trim_by, trim}
+use Rattle.grid.specs.Screen.{Row, padded, spaced, blank_row, line_row, put_cell, flag_row}
 use Rattle.values.specs.Attr.{byte_of}
 use Rattle.octets.specs.Part.{window, write}
 use Rattle.grid.specs.Record.{row_of, row_from, rows_of, Becomes}
 use Rattle.octets.proofs.PartLaws.{length_window, get_d_window, window_set_after, window_set_before, window_set_in, length_write, take_write, get_d_write_before, window_write_before, window_write_after, window_write_same}
 use Rattle.octets.proofs.Tables.{length_tabulate, get_d_tabulate}
-use Rattle.grid.proofs.Trim.{trim_space, trim_found}
 
 -- ---- the rows
 
@@ -86,10 +85,6 @@ pub length_padded : (w v : ℕ) → w ≤ 80 → length (padded w v) ≡ 80
 unfolding padded
 length_padded w v h =
     simp (length-append, length-replicate) (omega arith)
-
-pub full_blank : (w : ℕ) (attr : Attr) → w ≤ 80 → Full (blank_row w attr)
-unfolding blank_row
-full_blank w attr h = record { chars80 = length_padded w 32 h; attrs80 = length_padded w (byte_of attr) h }
 
 -- ---- a row that is written
 
@@ -198,11 +193,18 @@ module _ (l : List ℕ) (len : length l ≡ SIZE) where
       let q : length (window text from n) ≡ n = length_window text from n ht in
       rw (e₂, e₁, eb) (put_becomes l r (line_row w attr f (window text from n)) len h (full_line w attr f (window text from n) (omega arith) k))
 
-  pub blanked : (m₁ m₂ : List ℕ) (r w byte : ℕ) (attr : Attr) → byte ≡ byte_of attr → r < 25 → w ≤ 80
-      → m₁ ≡ write l (CHARS + 80 * r) (padded w 32) → m₂ ≡ write m₁ (ATTRS + 80 * r) (padded w byte)
-      → Becomes l (set m₂ (FLAGS + r) 0) (set (rows_of l) r (blank_row w attr))
-  unfolding put_row blank_row
-  blanked m₁ m₂ r w byte attr eb h k e₁ e₂ = rw (e₂, e₁, eb) (put_becomes l r (blank_row w attr) len h (full_blank w attr k))
+-- a blank row is the line row of no characters
+pub blank_is : (w : ℕ) (attr : Attr) → line_row w attr 0 [] ≡ blank_row w attr
+unfolding line_row blank_row spaced padded
+blank_is w attr =
+    let e : w - 0 ≡ w = omega arith in
+    rw e
+
+-- `blank_row`
+pub blanked : (l m : List ℕ) (r w : ℕ) (attr : Attr) → Becomes l m (set (rows_of l) r (line_row w attr 0 (window [] 0 0)))
+    → Becomes l m (set (rows_of l) r (blank_row w attr))
+unfolding window
+blanked l m r w attr p = rw blank_is at p
 
 -- `put_cell`
 pub celled : (l : List ℕ) (r c ch byte : ℕ) (attr : Attr) → byte ≡ byte_of attr → length l ≡ SIZE → r < 25 → c < 80
@@ -257,23 +259,9 @@ flag_set l r f len h =
           (window_set_after l (FLAGS + r) f (ATTRS + 80 * q) 80 (omega arith)));
     }
 
-module _ (l : List ℕ) (r w : ℕ) (len : length l ≡ SIZE) (below : r < 25) (wide : w ≤ 80) where
-  pub trim_turn : (n : ℕ) → 0 < n → n ≤ w → get_or l (CHARS + 80 * r + (n - 1)) 0 ≡ 32
-      → length (trim (take n (row_of l r).chars)) ≡ length (trim (take w (row_of l r).chars))
-      → length (trim (take (n - 1) (row_of l r).chars)) ≡ length (trim (take w (row_of l r).chars))
-  trim_turn n h k b e =
-      let f = (full_row l r len below).chars80 in
-      sym (ap length (trim_space (row_of l r).chars n (get_or l (CHARS + 80 * r + (n - 1)) 0) h (omega arith) (sym (get_d_chars l r (n - 1) (omega arith))) b)) ∙ e
-
-  pub trim_stop : (n : ℕ) → 0 < n → n ≤ w → (get_or l (CHARS + 80 * r + (n - 1)) 0 ≡ 32 → ⊥)
-      → length (trim (take n (row_of l r).chars)) ≡ length (trim (take w (row_of l r).chars)) → n ≡ length (trim (take w (row_of l r).chars))
-  trim_stop n h k b e =
-      let f = (full_row l r len below).chars80 in
-      sym (trim_found (row_of l r).chars n (get_or l (CHARS + 80 * r + (n - 1)) 0) h (omega arith) (sym (get_d_chars l r (n - 1) (omega arith))) b) ∙ e
-
-  pub trim_end : (n : ℕ) → n ≤ 0 → length (trim (take n (row_of l r).chars)) ≡ length (trim (take w (row_of l r).chars))
-      → 0 ≡ length (trim (take w (row_of l r).chars))
-  unfolding trim trim_by
-  trim_end n h e =
-      let z : n ≡ 0 = omega arith in
-      rw z at e
+-- `text_length`: the first w characters, as the code reads them
+pub first_chars : (l : List ℕ) (r w : ℕ) → w ≤ 80 → take (CHARS + 80 * r + w - (CHARS + 80 * r)) (drop (CHARS + 80 * r) l) ≡ take w (row_of l r).chars
+unfolding row_of window
+first_chars l r w wide =
+    let n : CHARS + 80 * r + w - (CHARS + 80 * r) ≡ w = omega arith in
+    rw n (sym (take-take w 80 (drop (CHARS + 80 * r) l) wide))

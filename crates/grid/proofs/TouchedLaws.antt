@@ -1,26 +1,25 @@
 -- `touched`: the rows that differ, and their mask.
 -- Assumes nothing.
-use Prim.Native.Nat.{ℕ, zero, suc, ◌+◌, ◌*◌, ◌^◌, ◌<◌, ◌≤◌}
+use Prim.Native.Nat.{ℕ, zero, suc, ◌+◌, ◌-◌, ◌*◌, ◌^◌, ◌<◌, ◌≤◌}
 use mathlib.Core.Path.{◌≡◌, refl, sym, ap, ◌∙◌, subst}
-use mathlib.Core.Bool.{Bool, true, false, not}
+use mathlib.Core.Bool.{Bool, true, false, not, ◌&&◌, and-true}
 use mathlib.Core.List.{List, [], ◌∷◌, ◌++◌}
 use native.Mathlib.Nat.{pow-suc, not-suc-le-zero, le_of_suc-le-suc}
 use native.Mathlib.Numerals.{add-one}
 use native.Mathlib.Omega.{arith}
-use lib.ListN.{length, get_or, take}
+use lib.ListN.{length, get_or, take, drop}
 use lib.Seq.{take-suc, take_all, length-take-le}
-use borrow.Author.Tests.{eq-eqb, not-true, not-false, ne_eqb}
+use borrow.Author.Tests.{eq-eqb}
 use lib.Dec.{eqb}
-use mathlib.Core.Bool
-use Rattle.std.specs.Prelude.{if◌then◌else◌}
 use Rattle.values.specs.Mask.{WithRow}
 use Rattle.grid.specs.Screen.{Row, number, same_row, differing, touched_rows, same}
 use Rattle.grid.specs.Record.{row_of, rows_of}
-use Rattle.octets.proofs.Bools.{pick, skip, and_both, count_turn}
+use Rattle.octets.proofs.Bools.{and_both}
 use Rattle.grid.proofs.RowLaws.{length_rows, get_d_rows}
-use Rattle.grid.specs.Layout.{FLAGS, CHARS, ATTRS}
 use Rattle.octets.specs.Part.{window}
-use Rattle.grid.proofs.ValidLaws.{same_more}
+use Rattle.octets.proofs.PartLaws.{length_window, part_window}
+use Rattle.std.proofs.Math.Bool.{and_assoc}
+use Rattle.std.specs.List.{fold, zip}
 
 -- ---- a list of tests as a number
 
@@ -41,13 +40,6 @@ unfolding number
 number_new [] = refl
 number_new (true ∷ bs) = omega (arith, number_new bs, pow-suc 2 (length bs))
 number_new (false ∷ bs) = omega (arith, number_new bs, pow-suc 2 (length bs))
-
--- `marked`
-pub row_marked : (mask m row : ℕ) (t : Bool) → mask < 2 ^ row → t ≡ false → WithRow mask row m → m ≡ (if t then mask else mask + 2 ^ row)
-row_marked mask m row t l e w = w.sum l ∙ sym (skip t mask (mask + 2 ^ row) e)
-
-pub row_kept : (mask row : ℕ) (t : Bool) → t ≡ true → mask ≡ (if t then mask else mask + 2 ^ row)
-row_kept mask row t e = sym (pick t mask (mask + 2 ^ row) e)
 
 pub length_differing : (o n : List Row) → length o ≡ length n → length (differing o n) ≡ length o
 unfolding differing
@@ -84,25 +76,30 @@ module _ (a b : List ℕ) where
       let q : number bs < 2 ^ r = subst (λ (i : ℕ). number bs < 2 ^ i) k (number_lt bs) in
       omega arith
 
-  pub changed_turn : (mask m r : ℕ) (t : Bool) → r < 25 → mask ≡ changed_to a b r → t ≡ same_row (row_of a r) (row_of b r)
-      → m ≡ (if t then mask else mask + 2 ^ r) → m ≡ changed_to a b (r + 1)
-  unfolding changed_to
-  changed_turn mask m r t h e et em =
-      let bs : List Bool = differing (rows_of a) (rows_of b) in
-      let d : Row = row_of a 0 in
-      let k : length (take r bs) ≡ r = length-take-le r bs (omega (arith, size)) in
-      let g : get_or bs r false ≡ not t =
-      get_d_differing (rows_of a) (rows_of b) d r (omega (arith, length_rows a)) (omega (arith, length_rows b))
-      ∙ ap (λ (x : Row). not (same_row x (get_or (rows_of b) r d))) (get_d_rows a r d h) ∙ ap (λ (x : Row). not (same_row (row_of a r) x)) (get_d_rows b r d h)
-      ∙ ap not (sym et) in
-      let s : take (r + 1) bs ≡ take r bs ++ (not t ∷ []) =
-      ap (λ (i : ℕ). take i bs) (add-one r) ∙ take-suc bs r false (omega (arith, size)) ∙ ap (λ (x : Bool). take r bs ++ (x ∷ [])) g in
-      em ∙ pick t k ∙ sym (ap number s)
-    where
-      pick : (u : Bool) → length (take r (differing (rows_of a) (rows_of b))) ≡ r
-          → (if u then mask else mask + 2 ^ r) ≡ number (take r (differing (rows_of a) (rows_of b)) ++ (not u ∷ []))
-      pick true k = e ∙ sym (number_kept _)
-      pick false k = ap (λ (x : ℕ). x + 2 ^ r) e ∙ ap (λ (x : ℕ). number (take r (differing (rows_of a) (rows_of b))) + 2 ^ x) (sym k) ∙ sym (number_new (take r (differing (rows_of a) (rows_of b))))
+  module _ (mask r : ℕ) (h : r < 25) (e : mask ≡ changed_to a b r) where
+    -- the tests of the first rows, one row more
+    one_more : take (r + 1) (differing (rows_of a) (rows_of b)) ≡ take r (differing (rows_of a) (rows_of b)) ++ (not (same_row (row_of a r) (row_of b r)) ∷ [])
+    one_more =
+        let bs : List Bool = differing (rows_of a) (rows_of b) in
+        let d : Row = row_of a 0 in
+        let g : get_or bs r false ≡ not (same_row (row_of a r) (row_of b r)) =
+        get_d_differing (rows_of a) (rows_of b) d r (omega (arith, length_rows a)) (omega (arith, length_rows b))
+        ∙ ap (λ (x : Row). not (same_row x (get_or (rows_of b) r d))) (get_d_rows a r d h) ∙ ap (λ (x : Row). not (same_row (row_of a r) x)) (get_d_rows b r d h) in
+        ap (λ (i : ℕ). take i bs) (add-one r) ∙ take-suc bs r false (omega (arith, size)) ∙ ap (λ (x : Bool). take r bs ++ (x ∷ [])) g
+
+    pub row_kept : same_row (row_of a r) (row_of b r) ≡ true → mask ≡ changed_to a b (r + 1)
+    unfolding changed_to
+    row_kept is =
+        let bs : List Bool = take r (differing (rows_of a) (rows_of b)) in
+        e ∙ sym (ap number (one_more ∙ ap (λ (t : Bool). bs ++ (not t ∷ [])) is) ∙ number_kept bs)
+
+    pub row_marked : (m : ℕ) → same_row (row_of a r) (row_of b r) ≡ false → WithRow mask r m → m ≡ changed_to a b (r + 1)
+    unfolding changed_to
+    row_marked m is w =
+        let bs : List Bool = take r (differing (rows_of a) (rows_of b)) in
+        let k : length bs ≡ r = length-take-le r (differing (rows_of a) (rows_of b)) (omega (arith, size)) in
+        w.sum (changed_lt mask r (omega arith) (unfold changed_to in e)) ∙ ap (λ (x : ℕ). x + 2 ^ r) e ∙ ap (λ (x : ℕ). number bs + 2 ^ x) (sym k)
+        ∙ sym (ap number (one_more ∙ ap (λ (t : Bool). bs ++ (not t ∷ [])) is) ∙ number_new bs)
 
   pub changed_end : (mask r : ℕ) → r ≤ 25 → 25 ≤ r → mask ≡ changed_to a b r → mask ≡ touched_rows (rows_of a) (rows_of b)
   unfolding touched_rows changed_to
@@ -122,37 +119,18 @@ unfolding touched_rows differing number
 touched_none [] = refl
 touched_none (x ∷ rows) = rw (row_itself x) (ap (λ (n : ℕ). 2 * n) (unfold touched_rows in touched_none rows))
 
-module _ (l m : List ℕ) (at : ℕ) where
-  pub same_start : eqb 0 0 ≡ same (window l at 0) (window m at 0)
-  unfolding same window
-  same_start = refl
+-- two parts, as `part_same` looks at all of their bytes
+fold_same : (b : Bool) (xs ys : List ℕ) → length xs ≡ length ys
+    → fold (λ (all : Bool) (p : ℕ × ℕ). all && eqb p.0 p.1) b (zip xs ys) ≡ b && same xs ys
+unfolding same
+fold_same b [] [] h = sym (and-true b)
+fold_same b [] (y ∷ ys) h = absurd (omega arith)
+fold_same b (x ∷ xs) [] h = absurd (omega arith)
+fold_same b (x ∷ xs) (y ∷ ys) h = fold_same (b && eqb x y) xs ys (omega arith) ∙ and_assoc b (eqb x y) (same xs ys)
 
-  pub same_turn : (i bad k : ℕ) → at + 80 ≤ length l → at + 80 ≤ length m → i < 80 → eqb bad 0 ≡ same (window l at i) (window m at i)
-      → k ≡ (if eqb (get_or l (at + i) 0) (get_or m (at + i) 0) then 0 else 1) → eqb (bad + k) 0 ≡ same (window l at (i + 1)) (window m at (i + 1))
-  same_turn i bad k h h' q e ek =
-      count_turn bad k (same (window l at i) (window m at i)) (eqb (get_or l (at + i) 0) (get_or m (at + i) 0)) e ek
-      ∙ sym (same_more l m at i (omega arith) (omega arith))
-
-  pub same_end : (i bad : ℕ) → i ≤ 80 → 80 ≤ i → eqb bad 0 ≡ same (window l at i) (window m at i) → eqb bad 0 ≡ same (window l at 80) (window m at 80)
-  same_end i bad h k e =
-      let done : i ≡ 80 = omega arith in
-      rw done at e
-
-module _ (l m : List ℕ) (r : ℕ) where
-  pub flags_differ : (f g : ℕ) → f ≡ (row_of l r).flag → g ≡ (row_of m r).flag → (f ≡ g → ⊥) → false ≡ same_row (row_of l r) (row_of m r)
-  unfolding same_row
-  flags_differ f g ef eg ne = rw (ne_eqb (row_of l r).flag (row_of m r).flag (λ q. ne (ef ∙ q ∙ sym eg)))
-
-  pub chars_differ : (t : Bool) → t ≡ same (window l (CHARS + 80 * r) 80) (window m (CHARS + 80 * r) 80) → not t ≡ true → false ≡ same_row (row_of l r) (row_of m r)
-  unfolding same_row row_of
-  chars_differ t is n =
-      let z : same (window l (CHARS + 80 * r) 80) (window m (CHARS + 80 * r) 80) ≡ false = sym is ∙ not-true t n in
-      simp (z, Bool.and-false)
-
-  pub same_row_end : (f g : ℕ) (t u : Bool) → f ≡ (row_of l r).flag → g ≡ (row_of m r).flag → f ≡ g
-      → t ≡ same (window l (CHARS + 80 * r) 80) (window m (CHARS + 80 * r) 80) → not t ≡ false
-      → u ≡ same (window l (ATTRS + 80 * r) 80) (window m (ATTRS + 80 * r) 80) → u ≡ same_row (row_of l r) (row_of m r)
-  unfolding same_row row_of
-  same_row_end f g t u ef eg q it nt iu =
-      let z : same (window l (CHARS + 80 * r) 80) (window m (CHARS + 80 * r) 80) ≡ true = sym it ∙ not-false t nt in
-      rw (eq-eqb (get_or l (FLAGS + r) 0) (get_or m (FLAGS + r) 0) (sym ef ∙ q ∙ eg), z) iu
+pub parts_same : (l m : List ℕ) (a : ℕ) (t : Bool) → a + 80 ≤ length l → a + 80 ≤ length m
+    → t ≡ fold (λ (all : Bool) (p : ℕ × ℕ). all && eqb p.0 p.1) true (zip (take (a + 80 - a) (drop a l)) (take (a + 80 - a) (drop a m)))
+    → t ≡ same (window l a 80) (window m a 80)
+parts_same l m a t h k e =
+    (rw (part_window l a 80, part_window m a 80) at e)
+    ∙ fold_same true (window l a 80) (window m a 80) (length_window l a 80 h ∙ sym (length_window m a 80 k))

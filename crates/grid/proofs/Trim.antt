@@ -1,14 +1,16 @@
 -- A list without its trailing spaces, one element at a time from the right.
 -- Assumes nothing.
-use Prim.Native.Nat.{ℕ, zero, suc, ◌-◌, ◌<◌, ◌≤◌}
+use Prim.Native.Nat.{ℕ, zero, suc, ◌+◌, ◌-◌, ◌<◌, ◌≤◌}
 use mathlib.Core.Path.{◌≡◌, refl, sym, ap, ◌∙◌}
 use mathlib.Core.Bool.{Bool, true, false, ◌&&◌}
 use mathlib.Core.List.{List, [], ◌∷◌, ◌++◌, append-nil}
+use mathlib.Core.Logic.{◌≢◌}
+use native.Mathlib.Numerals.{add-one}
 use native.Mathlib.Omega.{arith}
 use lib.ListN.{length, get_or, take, replicate}
-use lib.Seq.{take-suc, length-take-le, append_snoc}
+use lib.Seq.{take-suc, take_all, length-take-le, append_snoc}
 use borrow.Author.Tests.{eq-eqb, ne_eqb}
-use Rattle.std.specs.Prelude.{if◌then◌else◌}
+use Rattle.std.specs.Prelude.{if◌then◌else◌, Option, None, Some, MatchOption}
 use Rattle.grid.specs.Screen.{is_empty, trim_by, is_space, trim}
 
 module _ (p : ℕ → Bool) where
@@ -45,7 +47,7 @@ module _ (p : ℕ → Bool) where
       pick true h = omega arith
       pick false h = omega arith
 
--- ---- `text_length`: the first n of the characters cs, of which b is the last
+-- ---- the first n of the characters cs, of which b is the last
 
 module _ (cs : List ℕ) (n b : ℕ) (low : 0 < n) (high : n ≤ length cs) (is : b ≡ get_or cs (n - 1) 0) where
   last : take n cs ≡ take (n - 1) cs ++ (b ∷ [])
@@ -62,3 +64,47 @@ module _ (cs : List ℕ) (n b : ℕ) (low : 0 < n) (high : n ≤ length cs) (is 
   trim_found ne =
       ap (λ (l : List ℕ). length (trim_by is_space l)) last ∙ ap length (trim_in is_space (take (n - 1) cs) b (ne_eqb b 32 ne))
       ∙ ap length (sym last) ∙ length-take-le n cs high
+
+-- o is the index of the last element that is no space
+abbrev LastWritten : List ℕ → Option ℕ → Type 0
+LastWritten l o =
+    MatchOption o ((k : ℕ) → k < length l → get_or l k 0 ≡ 32)
+    (λ i. (i < length l) × (get_or l i 0 ≢ 32) × ((k : ℕ) → i < k → k < length l → get_or l k 0 ≡ 32))
+
+-- and of all of them, of which i is the last that is no space
+module _ (cs : List ℕ) (i : ℕ) (found : get_or cs i 0 ≢ 32) (rest : (k : ℕ) → i < k → k < length cs → get_or cs k 0 ≡ 32) where
+  trimmed_to : (m n : ℕ) → m ≡ suc i + n → m ≤ length cs → length (trim (take m cs)) ≡ suc i
+  trimmed_to m zero e h =
+      let z : m ≡ suc i = omega arith in
+      let b : get_or cs i 0 ≡ get_or cs (m - 1) 0 = ap (λ (k : ℕ). get_or cs k 0) (omega arith) in
+      trim_found cs m (get_or cs i 0) (omega arith) h b found ∙ z
+  trimmed_to m (suc n) e h =
+      ap length (trim_space cs m (get_or cs (m - 1) 0) (omega arith) h refl (rest (m - 1) (omega arith) (omega arith))) ∙ trimmed_to (m - 1) n (omega arith) (omega arith)
+
+  trimmed : i < length cs → length (trim cs) ≡ suc i
+  trimmed h =
+      ap (λ (xs : List ℕ). length (trim xs)) (sym (take_all (length cs) cs (omega arith)))
+      ∙ trimmed_to (length cs) (length cs - suc i) (omega arith) (omega arith)
+
+-- all are spaces
+none_trimmed : length (trim []) ≡ 0
+unfolding trim trim_by
+none_trimmed = refl
+
+trimmed_away : (cs : List ℕ) (m : ℕ) → ((k : ℕ) → k < length cs → get_or cs k 0 ≡ 32) → m ≤ length cs → length (trim (take m cs)) ≡ 0
+trimmed_away cs zero each h = none_trimmed
+trimmed_away cs (suc m) each h =
+    let e : m ≡ suc m - 1 = omega arith in
+    ap length (trim_space cs (suc m) (get_or cs m 0) (omega arith) h (ap (λ (k : ℕ). get_or cs k 0) e) (each m (omega arith)))
+    ∙ ap (λ (k : ℕ). length (trim (take k cs))) (sym e) ∙ trimmed_away cs m each (omega arith)
+
+blank : (cs : List ℕ) → ((k : ℕ) → k < length cs → get_or cs k 0 ≡ 32) → length (trim cs) ≡ 0
+blank cs each = ap (λ (xs : List ℕ). length (trim xs)) (sym (take_all (length cs) cs (omega arith))) ∙ trimmed_away cs (length cs) each (omega arith)
+
+-- ---- `stripped_length`
+
+pub stripped_some : (cs : List ℕ) (i : ℕ) → LastWritten cs (Some i) → (i + 1 ≡ length (trim cs)) × (i + 1 ≤ length cs)
+stripped_some cs i h = (sym (trimmed cs i h.1 h.2 h.0 ∙ sym (add-one i)), omega arith)
+
+pub stripped_none : (cs : List ℕ) → LastWritten cs None → (0 ≡ length (trim cs)) × (0 ≤ length cs)
+stripped_none cs h = (sym (blank cs h), omega arith)

@@ -5,5 +5,4 @@ pub mod Screen
 pub mod Record
 pub mod Conditions
 pub mod Facts
-pub mod Counted
 pub mod Refusals

@@ -6,6 +6,8 @@ pub const STRIDE: usize = 80;
 
 pub const SIZE: usize = 4046;
 
+pub type Record = [u8; SIZE];
+
 pub const VERSION: u8 = 2;
 
 // Width, cursor row, cursor column, insert and cr, keys on, attribute.

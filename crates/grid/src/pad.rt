@@ -6,6 +6,7 @@ ghost use Rattle.octets.specs.Part.{window, write};
 use octets::part;
 
 // Writes w times v from index at on, and zeros up to 80 bytes.
+#[tactic(auto, using(crate::proofs::PadLaws::padded_write))]
 pub fn pad(rec: &mut [u8], at: usize, w: usize, v: u8)
     requires { (at + 80 ≤ length rec.old) × (w ≤ 80) }
     ensures { rec.new ≡ write rec.old at (padded w v) }
@@ -15,6 +16,7 @@ pub fn pad(rec: &mut [u8], at: usize, w: usize, v: u8)
 }
 
 // Writes n bytes of src, from index from on, at index at, with spaces up to w bytes and zeros up to 80.
+#[tactic(auto, using(crate::proofs::PadLaws::text_written))]
 pub fn put_text(rec: &mut [u8], at: usize, w: usize, src: &[u8], from: usize, n: usize)
     requires { (at + 80 ≤ length rec.old) × (w ≤ 80) × (n ≤ w) × (from + n ≤ length src.now) }
     ensures { rec.new ≡ write rec.old at (spaced w (window src.now from n)) }

@@ -1,34 +1,38 @@
 // The refusals that all calls on a lent screen record share.
-ghost use Rattle.std.specs.Prelude.{◌≡◌, [], ◌∷◌};
-ghost use Rattle.octets.specs.Refusals.{first_of, refused_with};
+ghost use Rattle.std.specs.Prelude.{◌≡◌, [], ◌∷◌, IfOk};
+ghost use Rattle.octets.specs.Answer.{found};
+ghost use Rattle.octets.specs.Refusals.{first_of};
 ghost use Rattle.grid.specs.Refusals.{record_tests};
+ghost use Rattle.grid.specs.Facts.{Valid};
 
-use crate::layout::SIZE;
+use crate::layout::Record;
 use crate::valid;
-use octets::answer::REFUSED;
+use octets::answer::Refusal;
 
-// What the call answers if it is refused for the record's sake, else 0. lengths: every other lent slice has a length that is taken.
-pub fn record_refused(rec: &[u8], lengths: bool) -> u32
-    ensures { result ≡ refused_with (first_of (record_tests lengths rec.now)) }
+// The record in the slice, unless a call is refused for its sake. lengths: every other lent slice has a length that is taken.
+#[tactic(auto, using(crate::proofs::RefusalLaws::size_refused, crate::proofs::RefusalLaws::tests_left, crate::proofs::Validity::valid_facts))]
+pub fn record(rec: &[u8], lengths: bool) -> Result<&Record, Refusal>
+    ensures refusal { found result ≡ first_of (record_tests lengths rec.now) }
+    ensures same { IfOk result (λ r. r.now ≡ rec.now) }
+    ensures valid { IfOk result (λ r. Valid r.now) }
 {
-    if rec.len() != SIZE {
-        return REFUSED + 1;
-    }
+    let record = rec.as_array().ok_or(Refusal::WrongLength)?;
     if !lengths {
-        return REFUSED + 1;
+        return Err(Refusal::WrongLength);
     }
-    if !valid::valid(rec) {
-        return REFUSED + 2;
+    if !valid::valid(record) {
+        return Err(Refusal::BrokenLayout);
     }
-    0
+    Ok(record)
 }
 
-// What a call answers whose arguments are out of range, and 0 if ok says that they are not.
-pub fn range_refused(ok: bool) -> u32
-    ensures { result ≡ refused_with (first_of ((3, ok) ∷ [])) }
+// Refuses a call whose arguments are out of range: ok says that they are not.
+#[tactic(auto, unfolding(octets::specs::Refusals::first_of))]
+pub fn in_range(ok: bool) -> Result<(), Refusal>
+    ensures { found result ≡ first_of ((3, ok) ∷ []) }
 {
-    if ok {
-        return 0;
+    if !ok {
+        return Err(Refusal::OutOfRange);
     }
-    REFUSED + 3
+    Ok(())
 }

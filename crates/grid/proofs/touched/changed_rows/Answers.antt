@@ -1,17 +1,21 @@
 -- `grid::touched::changed_rows` meets its contract.
-use native.Mathlib.Omega.{arith}
 use Rattle.std.proofs.Common.{rules}
-use Rattle.grid.proofs.TouchedLaws.{changed_start, changed_lt, changed_turn, changed_end}
+use mathlib.Core.Path.{sym, ◌∙◌}
+use native.Mathlib.Omega.{arith}
+use Rattle.grid.proofs.TouchedLaws.{changed_start, row_kept, row_marked, changed_end}
+use Rattle.grid.proofs.touched.changed_rows.Goals.{then-not-row_same, else-not-row_same}
 use Rattle.grid.proofs.touched.changed_rows.Goals as goal
 
 pub loop-r-init : goal.loop-r-init
 loop-r-init c = search (rules, changed_start)
 
-pub marked-mask-requires : goal.marked-mask-requires
-marked-mask-requires c = search (rules, changed_lt)
-
 pub loop-r-preserved : goal.loop-r-preserved
-loop-r-preserved c = (omega arith, changed_turn _ _ _ _ _ _ (omega arith) c.loop-r.invariant.1 c.row_same.ensures c.marked-mask.ensures)
+loop-r-preserved c =
+    elim c.if-not-row_same.branch [
+      | then-not-row_same w ↦
+          w.mask-is ∙ row_marked _ _ _ _ (omega arith) c.loop-r.invariant _ (sym c.row_same.ensures ∙ w.if-not-row_same.true) w.with_row-mask.ensures
+      | else-not-row_same w ↦ w.mask-is ∙ row_kept _ _ _ _ (omega arith) c.loop-r.invariant (sym c.row_same.ensures ∙ w.if-not-row_same.false)
+    ]
 
 pub returns : goal.returns
 returns c = search (rules, changed_end)
