@@ -3,12 +3,11 @@
 use Prim.Native.Nat.{ℕ, zero, suc, ◌+◌, ◌-◌, ◌*◌, ◌≤◌, ◌<◌, min}
 use mathlib.Core.Path.{◌≡◌, sym, ap, ap₂, ◌∙◌, subst}
 use mathlib.Core.List.{List, [], ◌∷◌, ◌++◌}
-use native.Mathlib.Nat.{not-suc-le-zero, le_of_suc-le-suc, mul-le-mul, mul-le-mul_right, lt_of_mul-lt-mul_right}
+use native.Mathlib.Nat.{not-suc-le-zero, le_of_suc-le-suc, mul-le-mul_right}
+use native.Mathlib.Decide.{dec_lt}
 use native.Mathlib.Omega.{arith}
 use lib.ListN.{length, get_or, take, drop, replicate, length-append, length-drop}
 use lib.Seq.{take-nil, take-add, take-take, take-append-le, take-append-add, drop-append-add, drop-cons, get_or-drop, length-take-le}
-use mir.Syntax.{w64}
-use mir.Val.{Fits}
 use Rattle.grid.specs.Layout.{SIZE}
 use Rattle.grid.specs.Screen.{Row, no_row}
 use Rattle.octets.specs.Part.{write}
@@ -148,57 +147,48 @@ module _ (l : List ℕ) (start w : ℕ) (len : length l ≡ SIZE) (wide : w ≤ 
       let b : suc (r - start) * w ≤ (25 - start) * w = mul-le-mul_right w (omega arith) in
       omega arith
 
--- ---- joined_rows: i characters are those of the rows from start up to r
-
-module _ (l : List ℕ) (start w r i : ℕ) (len : length l ≡ SIZE) (wide : w ≤ 80) (from : start ≤ r) (below : r < 25) (is : i ≡ (r - start) * w) where
-  length_copied : length (line_from l start w i) ≡ i
-  length_copied =
-      let m : (r - start) * w ≤ (25 - start) * w = mul-le-mul_right w (omega arith) in
-      length_from l start w len wide i (omega arith)
-
-  pub chars_turn : (n : ℕ) (m m' : List ℕ) → n ≤ w → m ≡ write (replicate MAX-LOGICAL 32) 0 (line_from l start w i)
-      → m' ≡ write m i (take n (row_of l r).chars) → m' ≡ write (replicate MAX-LOGICAL 32) 0 (line_from l start w (i + n))
-  chars_turn n m m' h e e' =
-      let s : List ℕ = line_from l start w i in
-      let t : List ℕ = take n (row_of l r).chars in
-      let k : i ≡ 0 + length s = omega (arith, length_copied) in
-      let more : line_from l start w (i + n) ≡ s ++ t = rw is (more_from l start w len wide r n from below h) in
-      e' ∙ ap (λ (x : List ℕ). write x i t) e
-      ∙ ap (λ (j : ℕ). write (write (replicate MAX-LOGICAL 32) 0 s) j t) k
-      ∙ write_append (replicate MAX-LOGICAL 32) 0 s t ∙ ap (write (replicate MAX-LOGICAL 32) 0) (sym more)
-
-  pub chars_end : (n : ℕ) (m m' : List ℕ) → i ≤ n → n ≤ i + w → m ≡ write (replicate MAX-LOGICAL 32) 0 (line_from l start w i)
-      → m' ≡ write m i (take (n - i) (row_of l r).chars) → m' ≡ write (replicate MAX-LOGICAL 32) 0 (line_from l start w n)
-  chars_end n m m' h h' e e' =
-      let q : i + (n - i) ≡ n = omega arith in
-      rw q at (chars_turn (n - i) m m' (omega arith) e e')
-
-  pub next_index : i + w ≡ (r + 1 - start) * w
-  next_index =
-      let q : r + 1 - start ≡ suc (r - start) = omega arith in
-      rw q (omega arith)
-
-  pub next_row_inside : (n : ℕ) → i + w < n → n ≤ (25 - start) * w → r + 1 < 25
-  next_row_inside n h h' =
-      let q : suc (r - start) * w < (25 - start) * w = omega arith in
-      omega (arith, lt_of_mul-lt-mul_right w q)
-
-pub chars_start : (l : List ℕ) (start w : ℕ) → replicate MAX-LOGICAL 32 ≡ write (replicate MAX-LOGICAL 32) 0 (line_from l start w 0)
-unfolding line_from
-chars_start l start w = sym (write_none (replicate MAX-LOGICAL 32) 0)
-
-pub index_start : (start w : ℕ) → 0 ≡ (start - start) * w
-index_start start w =
-    let q : start - start ≡ 0 = omega arith in
+-- the rows up to the last, and it
+pub rows_more : (start end w : ℕ) → start ≤ end → (end + 1 - start) * w ≡ (end - start) * w + w
+rows_more start end w h =
+    let q : end + 1 - start ≡ suc (end - start) = omega arith in
     rw q (omega arith)
 
--- ---- the sums of the code fit
+-- ---- joined_rows: behind the rows from start up to r come n characters of the row r, of `most` in all
 
-rows_most : (x w : ℕ) → x ≤ 25 → w ≤ 80 → x * w ≤ 2000
-rows_most x w h k = mul-le-mul {n₂ = 25} {m₂ = 80} h k
+module _ (l : List ℕ) (start w r : ℕ) (len : length l ≡ SIZE) (wide : w ≤ 80) (from : start ≤ r) (below : r < 25) where
+  copied : (m m' : List ℕ) (n : ℕ) → n ≤ w → m ≡ write (replicate MAX-LOGICAL 32) 0 (line_from l start w ((r - start) * w))
+      → m' ≡ write m ((r - start) * w) (take n (row_of l r).chars) → m' ≡ write (replicate MAX-LOGICAL 32) 0 (line_from l start w ((r - start) * w + n))
+  copied m m' n h e e' =
+      let s : List ℕ = line_from l start w ((r - start) * w) in
+      let t : List ℕ = take n (row_of l r).chars in
+      let to : (r - start) * w ≤ (25 - start) * w = mul-le-mul_right w (omega arith) in
+      let k : (r - start) * w ≡ 0 + length s = omega (arith, length_from l start w len wide ((r - start) * w) to) in
+      e' ∙ ap₂ (λ (x : List ℕ) (j : ℕ). write x j t) e k ∙ write_append (replicate MAX-LOGICAL 32) 0 s t
+      ∙ ap (write (replicate MAX-LOGICAL 32) 0) (sym (more_from l start w len wide r n from below h))
 
-pub rows_fit : (x w : ℕ) → x ≤ 25 → w ≤ 80 → Fits w64 (x * w)
-rows_fit x w h k = record { fits = omega (arith, rows_most x w h k) }
+  pub chars_turn : (m m' : List ℕ) (most i n : ℕ) → m ≡ write (replicate MAX-LOGICAL 32) 0 (line_from l start w (min most ((r - start) * w)))
+      → i ≡ min most ((r - start) * w) → n ≡ min w (most - i) → m' ≡ write m i (take n (row_of l r).chars)
+      → m' ≡ write (replicate MAX-LOGICAL 32) 0 (line_from l start w (min most ((r + 1 - start) * w)))
+  chars_turn m m' most i n e ei en e' = pick (dec_lt most ((r - start) * w))
+    where
+      next : (r + 1 - start) * w ≡ (r - start) * w + w
+      next = rows_more start r w from
 
-pub chars_fit : (x w y : ℕ) → x ≤ 25 → w ≤ 80 → y ≤ 80 → Fits w64 (x * w + y)
-chars_fit x w y h k m = record { fits = omega (arith, rows_most x w h k) }
+      pick : Dec (most < (r - start) * w) → m' ≡ write (replicate MAX-LOGICAL 32) 0 (line_from l start w (min most ((r + 1 - start) * w)))
+      pick (yes h) =
+          let z : n ≡ 0 = omega arith in
+          let q : min most ((r - start) * w) ≡ min most ((r + 1 - start) * w) = omega (arith, next) in
+          rw z at e' ∙ write_none m i ∙ e ∙ ap (λ (k : ℕ). write (replicate MAX-LOGICAL 32) 0 (line_from l start w k)) q
+      pick (no h) =
+          let z : min most ((r - start) * w) ≡ (r - start) * w = omega arith in
+          let q : (r - start) * w + n ≡ min most ((r + 1 - start) * w) = omega (arith, next) in
+          rw q at (copied m m' n (omega arith) (rw z at e) (rw (ei, z) at e'))
+
+pub chars_start : (l : List ℕ) (start w most : ℕ) → replicate MAX-LOGICAL 32 ≡ write (replicate MAX-LOGICAL 32) 0 (line_from l start w (min most ((start - start) * w)))
+unfolding line_from
+chars_start l start w most =
+    let z : start - start ≡ 0 = omega arith in
+    let q : min most (0 * w) ≡ 0 = omega arith in
+    rw (z, q) (sym (write_none (replicate MAX-LOGICAL 32) 0))
+
+-- ---- the rows of a screen are few characters

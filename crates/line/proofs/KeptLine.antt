@@ -19,26 +19,12 @@ use Rattle.octets.proofs.Bools.{and_left, and_right, cases, either, every_both, 
 use Rattle.grid.proofs.Trim.{trim_le}
 use Rattle.grid.proofs.Validity.{row_facts, row_valid}
 use Rattle.grid.proofs.Keep.{rows_take, rows_drop, rows_append, rows_cons, rows_count, rows_replicate, row_at_facts, spaces, line_row_facts, Edited, edited_top, blank_of}
-use Rattle.line.specs.Line.{MAX-LOGICAL, flagged, span_start, span_end, start_of, end_of, joined, row_text, whole_rows, reading, line_text, index, reach, content}
+use Rattle.line.specs.Line.{MAX-LOGICAL, start_of, end_of, joined, row_text, whole_rows, reading, line_text, index, reach, content}
 use Rattle.line.specs.Splice.{rows_for, line_rows, spliced_rows, splice}
+use Rattle.line.proofs.SpanLaws.{span_start_most, span_end_from, span_end_to}
 use Rattle.line.proofs.Kept.{Kept}
 
 -- ---- spans
-
-span_start_most : (rows : List Row) (r : ℕ) → span_start rows r ≤ r
-unfolding span_start
-span_start_most rows zero = omega arith
-span_start_most rows (suc r) = let h = span_start_most rows r in either (λ (x : ℕ). x ≤ suc r) (flagged rows r) _ _ (omega arith) (omega arith)
-
-span_end_from : (rows : List Row) (k r : ℕ) → r ≤ span_end rows k r
-unfolding span_end
-span_end_from rows zero r = omega arith
-span_end_from rows (suc k) r = let h = span_end_from rows k (suc r) in either (λ (x : ℕ). r ≤ x) (flagged rows r) _ _ (omega arith) (omega arith)
-
-span_end_to : (rows : List Row) (k r : ℕ) → span_end rows k r ≤ r + k
-unfolding span_end
-span_end_to rows zero r = omega arith
-span_end_to rows (suc k) r = let h = span_end_to rows k (suc r) in either (λ (x : ℕ). x ≤ r + suc k) (flagged rows r) _ _ (omega arith) (omega arith)
 
 -- the span of an editable row r
 pub record SpanFacts (s : Screen) (r : ℕ) : Type 0 where

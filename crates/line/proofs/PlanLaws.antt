@@ -5,15 +5,14 @@ use mathlib.Core.Path.{◌≡◌, refl, sym, ap, ap₂, ◌∙◌}
 use mathlib.Core.Bool.{Bool}
 use mathlib.Core.List.{List, ◌∷◌, ◌++◌}
 use mathlib.Core.Logic.{◌⊎◌, inl, inr}
-use native.Mathlib.Nat.{not-suc-le-zero, le_of_suc-le-suc, mul-le-mul}
+use native.Mathlib.Nat.{not-suc-le-zero, le_of_suc-le-suc}
 use native.Mathlib.Numerals.{add-one}
 use native.Mathlib.Decide.{ℕ_discrete, dec_lt}
 use native.Mathlib.Omega.{arith}
 use lib.Dec.{eqb}
-use lib.ListN.{length, get_or, take, drop, set}
-use lib.Seq.{drop-drop, drop-cons, get_or_at, set_at, set-get_or, append_snoc}
-use mir.Syntax.{w64}
-use mir.Val.{Fits}
+use lib.ListN.{length, get_or, take, drop, set, length-drop, drop_of_length-le}
+use Rattle.std.proofs.lemmas.List.{take_min}
+use lib.Seq.{take-nil, drop-drop, drop-cons, get_or_at, set_at, set-get_or, append_snoc}
 use borrow.Author.Tests.{lt-ltb, le-ltb, eq-eqb, ne_eqb}
 use Rattle.grid.specs.Layout.{SIZE}
 use Rattle.std.specs.Prelude.{if◌then◌else◌}
@@ -25,11 +24,9 @@ use Rattle.values.specs.declared.attr.Attr.{Attr}
 use Rattle.octets.proofs.Bools.{pick, skip}
 use Rattle.octets.proofs.Tables.{length_tabulate}
 use Rattle.grid.proofs.RowLaws.{length_rows, get_d_rows, and_then}
-use Rattle.octets.proofs.PartLaws.{drop_take}
 use Rattle.line.specs.Splice.{line_rows}
 use Rattle.line.specs.Plan.{plan_of, Laid, ChangedTo, line_flag, planned_row, planned_rows}
 use Rattle.line.specs.declared.plan.Plan.{Plan}
-use Rattle.line.proofs.CharsLaws.{take_min}
 
 -- ---- plan_of
 
@@ -128,34 +125,29 @@ module _ (old : List ℕ) (new : List Row) (blank : Row) (p : Plan) (r : ℕ) wh
     blank_put h k q b = other_row l m r _ _ b (sym (planned_blank (rows_of old) new blank p r h k q))
 
 -- the characters of a line's row: n of them, from index i on
-cut_window : (text : List ℕ) (x len w i n : ℕ) → i ≡ min x len → n ≡ min w (len - i) → window text i n ≡ take w (drop x (take len text))
+cut_window : (text : List ℕ) (x w i n : ℕ) → i ≡ min (length text) x → n ≡ min w (length text - i) → window text i n ≡ take w (drop x text)
 unfolding window
-cut_window text x len w i n ei en =
-    sym (ap (take w) (drop_take x len text) ∙ take_min w (len - x) (drop x text) ∙ pick (dec_lt len x))
+cut_window text x w i n ei en = pick (dec_lt (length text) x)
   where
-    pick : Dec (len < x) → take (min w (len - x)) (drop x text) ≡ take n (drop i text)
+    pick : Dec (length text < x) → take n (drop i text) ≡ take w (drop x text)
     pick (yes h) =
-        let z : min w (len - x) ≡ 0 = omega arith in
-        let z' : n ≡ 0 = omega arith in
-        rw (z, z')
+        let z : n ≡ 0 = omega arith in
+        rw (z, drop_of_length-le text {i = x} (omega arith)) (sym (take-nil w))
     pick (no h) =
         let q : i ≡ x = omega arith in
-        let q' : n ≡ min w (len - x) = omega arith in
-        rw (q, q')
+        let k : length (drop x text) ≡ length text - x = length-drop x text in
+        let m : n ≡ min w (length (drop x text)) = omega arith in
+        rw (q, m) (take_min w (drop x text))
 
-pub line_put : (old l m text : List ℕ) (len w : ℕ) (a : Attr) (blank : Row) (p : Plan) (r f i n : ℕ) → p.top ≤ r → r < p.top + p.lines
-    → f ≡ line_flag r (p.top + p.lines) → i ≡ min ((r - p.top) * w) len → n ≡ min w (len - i)
+pub line_put : (old l m text : List ℕ) (w : ℕ) (a : Attr) (blank : Row) (p : Plan) (r f i n : ℕ) → p.top ≤ r → r < p.top + p.lines
+    → f ≡ line_flag r (p.top + p.lines) → i ≡ min (length text) ((r - p.top) * w) → n ≡ min w (length text - i)
     → Becomes l m (set (rows_of l) r (line_row w a f (window text i n)))
-    → Becomes l m (set (rows_of l) r (planned_row (rows_of old) (line_rows p.lines w a (take len text)) blank p r))
-line_put old l m text len w a blank p r f i n h k ef ei en b =
+    → Becomes l m (set (rows_of l) r (planned_row (rows_of old) (line_rows p.lines w a text) blank p r))
+line_put old l m text w a blank p r f i n h k ef ei en b =
     let j : ℕ = r - p.top in
     other_row l m r _ _ b
-    (ap₂ (line_row w a) (ef ∙ flag_shift r (p.top + p.lines) j p.lines (λ q. omega arith) (λ q. omega arith)) (cut_window text (j * w) len w i n ei en)
-    ∙ sym (line_at p.lines w a (take len text) j (omega arith)) ∙ sym (planned_line (rows_of old) (line_rows p.lines w a (take len text)) blank p r h k))
-
--- the sums of the code fit
-pub line_fits : (p : Plan) (r w : ℕ) → Laid p → r < p.top + p.lines → w ≤ 80 → Fits w64 ((r - p.top) * w)
-line_fits p r w laid h k = record { fits = omega (arith, mul-le-mul {n₁ = r - p.top} {m₁ = w} {n₂ = 25} {m₂ = 80} (omega arith) k) }
+    (ap₂ (line_row w a) (ef ∙ flag_shift r (p.top + p.lines) j p.lines (λ q. omega arith) (λ q. omega arith)) (cut_window text (j * w) w i n ei en)
+    ∙ sym (line_at p.lines w a text j (omega arith)) ∙ sym (planned_line (rows_of old) (line_rows p.lines w a text) blank p r h k))
 
 -- ---- write_rows
 
@@ -179,10 +171,10 @@ module _ (old : List ℕ) (new : List Row) (blank : Row) (p : Plan) where
       ∙ ap (λ (R : List Row). get_or (tabulate f r ++ R) r no_row) (drop-cons (rows_of old) r no_row (omega (arith, length_rows old)))
       ∙ get_or_at (tabulate f r) (get_or (rows_of old) r no_row) (drop (suc r) (rows_of old)) no_row r (length_tabulate f r) ∙ get_d_rows old r no_row q
 
-  pub rows_turn : (l m n : List ℕ) (r : ℕ) → r < p.rows → Laid p → Becomes l m (rows_to (rows_of old) new blank p r)
+  pub rows_turn : (l m n : List ℕ) (r e : ℕ) → r < e → ChangedTo p e → Laid p → Becomes l m (rows_to (rows_of old) new blank p r)
       → Becomes m n (set (rows_of m) r (planned_row (rows_of old) new blank p r)) → Becomes l n (rows_to (rows_of old) new blank p (r + 1))
   unfolding rows_to tabulate f
-  rows_turn l m n r h laid b b' =
+  rows_turn l m n r e h c laid b b' =
       let rest : List Row = drop (suc r) (rows_of old) in
       and_then b b'
       (ap (λ (R : List Row). set R r (f r)) b.rows
@@ -235,6 +227,3 @@ changed_line p laid e = record { most = laid.whole; rest = inr (refl, e) }
 
 pub changed_all : (p : Plan) → ChangedTo p p.rows
 changed_all p = record { most = omega arith; rest = inl refl }
-
-pub row_inside : (p : Plan) (r e : ℕ) → r < e → e ≤ p.rows → r < p.rows
-row_inside p r e h k = omega arith

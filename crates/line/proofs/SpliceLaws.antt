@@ -21,7 +21,7 @@ use Rattle.grid.proofs.RowLaws.{length_rows}
 use Rattle.line.specs.Line.{MAX-LOGICAL}
 use Rattle.line.specs.Splice.{rows_for, line_rows, spliced_rows, splice, without_rows}
 use Rattle.line.specs.Given.{Known, SpanIs}
-use Rattle.line.specs.Text.{Sound, text_of}
+use Rattle.line.specs.Text.{text_of}
 use Rattle.line.specs.Plan.{Count, plan_of, Laid, planned_row, planned_rows}
 use Rattle.line.specs.declared.text.Text.{Text}
 use Rattle.line.specs.declared.plan.Plan.{Plan}
@@ -171,26 +171,26 @@ module _ (old l m : List ℕ) (h : Head) (b d e : ℕ) (p : Plan) (known : Known
   left : (c : Cursor) (R : List Row) (t : Screen) → Becomes l m R → R ≡ t.rows → with_cursor h c ≡ t.head → Leaves t l m (with_cursor h c)
   left c R t x e q = record { becomes = record { size = x.size; front = x.front; rows = x.rows ∙ e }; head = q }
 
-  pub line_removed : (text : List ℕ) (g : Head) (c : Cursor) → g ≡ with_cursor h c → b ≤ d → d < editable h.keys → p ≡ plan_of b d 0 e → c ≡ at b 0
-      → Becomes l m (planned_rows (rows_of old) (line_rows p.lines h.width h.attr (take 0 text)) (blank_row h.width h.attr) p)
+  pub line_removed : (g : Head) (c : Cursor) → g ≡ with_cursor h c → b ≤ d → d < editable h.keys → p ≡ plan_of b d 0 e → c ≡ at b 0
+      → Becomes l m (planned_rows (rows_of old) (line_rows p.lines h.width h.attr []) (blank_row h.width h.attr) p)
       → Leaves (without_rows (screen_of old) b d) l m g
   unfolding without_rows move_to with_rows line_rows plan_of s
-  line_removed text g c eg hb hd ep ec x =
+  line_removed g c eg hb hd ep ec x =
       let t : Screen = without_rows s b d in
-      let r : planned_rows (rows_of old) (line_rows p.lines h.width h.attr (take 0 text)) (blank_row h.width h.attr) p ≡ t.rows =
+      let r : planned_rows (rows_of old) (line_rows p.lines h.width h.attr []) (blank_row h.width h.attr) p ≡ t.rows =
       rw (ep, ← ee) (sym (spliced_planned (rows_of old) [] (blank_row h.width h.attr) e b d (length_rows old) hb (omega arith) (omega arith) (omega arith))) in
       rw eg (on_screen (λ (y : Screen). Leaves (without_rows y b d) l m (with_cursor h c)) (left c _ t x r (rw ec)))
 
   -- the text t
-  module _ (k : ℕ) (t : Text) (sp : SpanIs old h h.cursor.row b d) (sound : Sound t) (count : Count h.width t.len t.index k)
+  module _ (k : ℕ) (t : Text) (sp : SpanIs old h h.cursor.row b d) (count : Count h.width t.len t.index k)
       (ep : p ≡ plan_of b d k e) where
     new : List Row
     new = line_rows k h.width h.attr (text_of t)
 
     count_of : rows_for h.width (length (text_of t)) t.index ≡ k
-    count_of = ap (λ (x : ℕ). rows_for h.width x t.index) (length_text t sound) ∙ sym count.is
+    count_of = ap (λ (x : ℕ). rows_for h.width x t.index) (length_text t) ∙ sym count.is
 
-    pub spliced_end : (g : Head) → g ≡ with_cursor h (at (p.top + t.index / h.width) (t.index % h.width)) → Becomes l m (planned_rows (rows_of old) (line_rows p.lines h.width h.attr (take t.len t.bytes)) (blank_row h.width h.attr) p)
+    pub spliced_end : (g : Head) → g ≡ with_cursor h (at (p.top + t.index / h.width) (t.index % h.width)) → Becomes l m (planned_rows (rows_of old) (line_rows p.lines h.width h.attr (text_of t)) (blank_row h.width h.attr) p)
         → Leaves (splice (screen_of old) (text_of t) t.index) l m g
     unfolding splice move_to with_rows plan_of text_of new s
     spliced_end g eg x =
@@ -208,8 +208,9 @@ pub spliced_done : (old l m : List ℕ) (h g : Head) (b d e k : ℕ) (p : Plan) 
     → SpanIs old h h.cursor.row b d → Known old h → g ≡ with_cursor h (at (p.top + t.index / h.width) (t.index % h.width))
     → Count h.width t.len t.index k
     → Becomes l m (planned_rows (rows_of old) (line_rows p.lines h.width h.attr (take t.len t.bytes)) (blank_row h.width h.attr) p)
-    → Sound t → Leaves (splice (screen_of old) (text_of t) t.index) l m g
-spliced_done old l m h g b d e k p t ep ee sp known eg count x sound = spliced_end old l m h b d e p known ee k t sp sound count ep g eg x
+    → Leaves (splice (screen_of old) (text_of t) t.index) l m g
+unfolding text_of
+spliced_done old l m h g b d e k p t ep ee sp known eg count x = spliced_end old l m h b d e p known ee k t sp count ep g eg x
 
 -- `head_in`
 pub head_placed : (h g : Head) (c : Cursor) (r i : ℕ) → c ≡ at r i → g ≡ with_cursor h c → g ≡ with_cursor h (at r i)

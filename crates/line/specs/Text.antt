@@ -1,31 +1,22 @@
 -- The values that hold a line's characters: what the contracts say of `Text` (`src/text.rt`) and `Reading` (`src/reading.rt`).
 -- Assumes nothing.
-use Rattle.std.specs.Prelude.{if◌then◌else◌, ℕ, ◌≤◌, ◌≡◌, List, length, take, drop, eqb}
+use Rattle.std.specs.Prelude.{if◌then◌else◌, ℕ, ◌≡◌, List, length, take, drop, eqb}
 use Rattle.grid.specs.Record.{rows_of}
-use Rattle.line.specs.Line.{MAX-LOGICAL, joined}
+use Rattle.line.specs.Line.{joined}
 use Rattle.line.specs.declared.text.Text.{Text}
-use Rattle.line.specs.declared.reading.Reading.{Reading}
+use Rattle.line.specs.declared.text.Reading.{Reading}
 
 -- the characters that a text holds
 unfoldable pub text_of : Text → List ℕ
 text_of t = take t.len t.bytes
 
--- what is so of each text that the code makes
-pub record Sound (t : Text) : Type 0 where
-  pub size : length t.bytes ≡ MAX-LOGICAL
-  pub fits : t.len ≤ MAX-LOGICAL
-  pub within : t.index ≤ t.len
-
 -- the text t holds the characters cs, with the cursor at i
 pub record Holds (t : Text) (cs : List ℕ) (i : ℕ) : Type 0 where
-  pub sound : Sound t
   pub text : text_of t ≡ cs
   pub at : t.index ≡ i
 
 -- the reading t is cs
 pub record Reads (t : Reading) (cs : List ℕ) : Type 0 where
-  pub size : length t.bytes ≡ MAX-LOGICAL
-  pub fits : t.len ≤ MAX-LOGICAL
   pub text : take t.len t.bytes ≡ cs
   pub count : t.len ≡ length cs
 

@@ -4,8 +4,10 @@ ghost use Rattle.line.specs.Given.{Known};
 
 use grid::head;
 use grid::head::Head;
+use grid::layout::Record;
 
-pub fn head_of(rec: &[u8]) -> Head
+#[tactic(auto, using(crate::proofs::HeadLaws::known_head))]
+pub fn head_of(rec: &Record) -> Head
     requires { Valid rec.now }
     ensures { Known rec.now result }
 {

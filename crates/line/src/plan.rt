@@ -1,19 +1,19 @@
 // A plan of source rows: which row of the old screen, of a line, or blank, each row of the new screen is. It stands for the Rust's lists of rows
 // before and after a line (`to_vec`, `pop`, `remove(0)`): the rows are written one by one from a copy of the record.
-ghost use Rattle.std.specs.Prelude.{◌≡◌, ◌≤◌, ◌<◌, length, take, set};
-ghost use Rattle.grid.specs.Layout.{SIZE};
+ghost use Rattle.std.specs.Prelude.{◌≡◌, ◌≤◌, ◌<◌, set};
 ghost use Rattle.grid.specs.Screen.{blank_row};
 ghost use Rattle.grid.specs.Record.{row_of, rows_of, Becomes};
 ghost use Rattle.line.specs.Splice.{line_rows};
 ghost use Rattle.line.specs.Plan.{plan_of, Laid, ChangedTo, line_flag, planned_row, planned_rows};
 
 use crate::span::Span;
+use grid::layout::Record;
 use grid::row;
-use octets::compare::{minus, smaller};
 use values::attr::Attr;
 
 // Row r of the new screen is: before top, the old row r + over; then one of the line's rows; then the old rows from next on; then blank.
 // Rows from `rows` on stay as they are.
+// Kept so: that a plan keeps to the screen (`Laid`) is no ghost field, since `plan_of` of specs/ is a plan of any four numbers.
 #[derive(Clone, Copy)]
 pub struct Plan {
     pub top: usize,
@@ -25,14 +25,15 @@ pub struct Plan {
 
 // The plan for a line of k rows in the place of a span, of e editable rows. Above e rows, rows go from the bottom of those after: the plan ends
 // at e. Where the rows before and the line alone are above e, `over` of those before go from the top.
+#[tactic(auto, using(crate::proofs::PlanLaws::plan_made))]
 pub fn plan_of(span: Span, k: usize, e: usize) -> Plan
     requires { (span.start ≤ span.end) × (span.end < e) × (24 ≤ e) × (e ≤ 25) × (k ≤ 8) }
     ensures { result ≡ plan_of span.start span.end k e }
 {
-    let over = minus(span.start + k, e);
+    let over = (span.start + k).saturating_sub(e);
     Plan {
         top: span.start - over,
-        over: over,
+        over,
         lines: k,
         next: span.end + 1,
         rows: e,
@@ -40,6 +41,7 @@ pub fn plan_of(span: Span, k: usize, e: usize) -> Plan
 }
 
 // The flag of the line's row that stands at r, where its rows end before `below`.
+#[tactic(auto, unfolding(crate::specs::Plan::line_flag))]
 fn line_flag(r: usize, below: usize) -> u8
     requires { r < below }
     ensures { result ≡ line_flag r below }
@@ -48,8 +50,9 @@ fn line_flag(r: usize, below: usize) -> u8
 }
 
 // Makes the row r that of old's row src. It is still as in old, so that with src = r nothing is to be written.
-fn move_row(rec: &mut [u8], r: usize, old: &[u8], src: usize)
-    requires { (length rec.old ≡ SIZE) × (length old.now ≡ SIZE) × (row_of rec.old r ≡ row_of old.now r) × (r < 25) × (src < 25) }
+#[tactic(auto, using(crate::proofs::PlanLaws::row_kept))]
+fn move_row(rec: &mut Record, r: usize, old: &Record, src: usize)
+    requires { (row_of rec.old r ≡ row_of old.now r) × (r < 25) × (src < 25) }
     ensures { Becomes rec.old rec.new (set (rows_of rec.old) r (row_of old.now src)) }
 {
     if src == r {
@@ -58,19 +61,11 @@ fn move_row(rec: &mut [u8], r: usize, old: &[u8], src: usize)
     row::copy_row(rec, r, old, src);
 }
 
-// Writes the row r by the plan, from the old rows and the first len bytes of a text. It is still as in old.
-fn write_row(
-    rec: &mut [u8],
-    r: usize,
-    old: &[u8],
-    p: Plan,
-    text: &[u8],
-    len: usize,
-    w: usize,
-    attr: Attr,
-)
-    requires { (length rec.old ≡ SIZE) × (length old.now ≡ SIZE) × (row_of rec.old r ≡ row_of old.now r) × (r < p.rows) × Laid p × (len ≤ length text.now) × (w ≤ 80) }
-    ensures { Becomes rec.old rec.new (set (rows_of rec.old) r (planned_row (rows_of old.now) (line_rows p.lines w attr (take len text.now)) (blank_row w attr) p r)) }
+// Writes the row r by the plan, from the old rows and a text. It is still as in old.
+#[tactic(auto, using(crate::proofs::PlanLaws::above_moved, crate::proofs::PlanLaws::below_moved, crate::proofs::PlanLaws::blank_put, crate::proofs::PlanLaws::line_put))]
+fn write_row(rec: &mut Record, r: usize, old: &Record, p: Plan, text: &[u8], w: usize, attr: Attr)
+    requires { (row_of rec.old r ≡ row_of old.now r) × (r < p.rows) × Laid p × (w ≤ 80) }
+    ensures { Becomes rec.old rec.new (set (rows_of rec.old) r (planned_row (rows_of old.now) (line_rows p.lines w attr text.now) (blank_row w attr) p r)) }
 {
     let top = p.top;
     if r < top {
@@ -79,8 +74,8 @@ fn write_row(
     }
     let below = top + p.lines;
     if r < below {
-        let from = smaller((r - top) * w, len);
-        let n = smaller(w, len - from);
+        let from = text.len().min((r - top) * w);
+        let n = w.min(text.len() - from);
         row::line_row(rec, r, w, attr, line_flag(r, below), text, from, n);
         return;
     }
@@ -93,6 +88,7 @@ fn write_row(
 }
 
 // The row at which the writing ends: where the line has as many rows as before, those behind it stay.
+#[tactic(auto, using(crate::proofs::PlanLaws::changed_line, crate::proofs::PlanLaws::changed_all))]
 fn changed_to(p: Plan) -> usize
     requires { Laid p }
     ensures { ChangedTo p result }
@@ -104,22 +100,13 @@ fn changed_to(p: Plan) -> usize
     p.rows
 }
 
-pub fn write_rows(
-    rec: &mut [u8],
-    old: &[u8],
-    p: Plan,
-    text: &[u8],
-    len: usize,
-    w: usize,
-    attr: Attr,
-)
-    requires { (length rec.old ≡ SIZE) × (length old.now ≡ SIZE) × (rec.old ≡ old.now) × Laid p × (len ≤ length text.now) × (w ≤ 80) }
-    ensures { Becomes rec.old rec.new (planned_rows (rows_of old.now) (line_rows p.lines w attr (take len text.now)) (blank_row w attr) p) }
+// Writes all rows by the plan.
+#[tactic(auto, using(crate::proofs::PlanLaws::rows_start, crate::proofs::PlanLaws::row_still))]
+pub fn write_rows(rec: &mut Record, old: &Record, p: Plan, text: &[u8], w: usize, attr: Attr)
+    requires { (rec.old ≡ old.now) × Laid p × (w ≤ 80) }
+    ensures { Becomes rec.old rec.new (planned_rows (rows_of old.now) (line_rows p.lines w attr text.now) (blank_row w attr) p) }
 {
-    let e = changed_to(p);
-    let mut r = 0;
-    while r < e {
-        write_row(rec, r, old, p, text, len, w, attr);
-        r += 1;
+    for r in 0..changed_to(p) {
+        write_row(rec, r, old, p, text, w, attr);
     }
 }

@@ -1,12 +1,12 @@
 // Where a logical line begins and ends.
-ghost use Rattle.std.specs.Prelude.{◌≡◌, ◌-◌, ◌≤◌, ◌<◌, length};
-ghost use Rattle.grid.specs.Layout.{SIZE};
+ghost use Rattle.std.specs.Prelude.{◌≡◌, ◌-◌, ◌≤◌, ◌<◌};
 ghost use Rattle.grid.specs.Screen.{editable};
 ghost use Rattle.grid.specs.Record.{rows_of};
 ghost use Rattle.line.specs.Line.{span_start, span_end};
 ghost use Rattle.line.specs.Given.{Known, SpanIs};
 
 use grid::head::Head;
+use grid::layout::Record;
 use grid::{head, row};
 
 // The first and the last row of a line.
@@ -16,36 +16,29 @@ pub struct Span {
     pub end: usize,
 }
 
-fn span_start(rec: &[u8], row: usize) -> usize
-    requires { (length rec.now ≡ SIZE) × (row < 25) }
+// A line begins behind the last row before its own that is not flagged.
+fn span_start(rec: &Record, row: usize) -> usize
+    requires { row < 25 }
     ensures { (result ≡ span_start (rows_of rec.now) row) × (result ≤ row) }
 {
-    let mut start = row;
-    while 0 < start {
-        if row::flag_at(rec, start - 1) != 1 {
-            return start;
-        }
-        start -= 1;
-    }
-    0
+    (0..row)
+        .rev()
+        .find(|r| row::flag_at(rec, *r) != 1)
+        .map_or(0, |r| r + 1)
 }
 
-fn span_end(rec: &[u8], row: usize, e: usize) -> usize
-    requires { (length rec.now ≡ SIZE) × (row < e) × (e ≤ 25) }
+// It ends at the first row from its own on that is not flagged, or with the last editable one.
+fn span_end(rec: &Record, row: usize, e: usize) -> usize
+    requires { (row < e) × (e ≤ 25) }
     ensures { (result ≡ span_end (rows_of rec.now) (e - 1 - row) row) × (row ≤ result) × (result < e) }
 {
-    let mut end = row;
-    while end + 1 < e {
-        if row::flag_at(rec, end) != 1 {
-            return end;
-        }
-        end += 1;
-    }
-    end
+    (row..e - 1)
+        .find(|r| row::flag_at(rec, *r) != 1)
+        .unwrap_or(e - 1)
 }
 
 // The span of an editable row.
-pub fn span_at(rec: &[u8], h: Head, row: usize) -> Span
+pub fn span_at(rec: &Record, h: Head, row: usize) -> Span
     requires { Known rec.now h × (row < editable h.keys) }
     ensures { SpanIs rec.now h row result.start result.end }
 {

@@ -1,92 +1,118 @@
-// The characters of a logical line while it is edited: a value, in the place of a `Vec<u8>`, with the cursor's index.
-ghost use Rattle.std.specs.Prelude.{◌+◌, ◌<◌, [], ◌∷◌, ◌++◌, take, drop, set};
+// The characters of a logical line: while it is edited, and as it is read.
+ghost use Rattle.std.specs.Prelude.{◌≡◌, ◌+◌, ◌≤◌, ◌<◌, [], ◌∷◌, ◌++◌, length, take, drop, set};
 ghost use Rattle.line.specs.Line.{MAX-LOGICAL};
-ghost use Rattle.line.specs.Text.{Sound, Holds, text_of};
 
 // The most characters of a logical line.
 pub const MAX_LOGICAL: usize = 255;
 
+// The characters while they are edited, with the cursor's index.
+// Kept so: no heap is a rule of the project: an array, and how much of it counts, in the place of a `Vec<u8>`.
 #[derive(Clone, Copy)]
 pub struct Text {
     pub bytes: [u8; MAX_LOGICAL],
     pub len: usize,
     pub index: usize,
+    pub ghost size: { length bytes ≡ MAX-LOGICAL },
+    pub ghost fits: { len ≤ MAX-LOGICAL },
+    pub ghost within: { index ≤ len },
+}
+
+// The characters as they are handed out.
+// Kept so: as `Text`.
+#[derive(Clone, Copy)]
+pub struct Reading {
+    pub bytes: [u8; MAX_LOGICAL],
+    pub len: usize,
+    pub ghost size: { length bytes ≡ MAX-LOGICAL },
+    pub ghost fits: { len ≤ MAX-LOGICAL },
 }
 
 impl Text {
+    ghost use Rattle.line.specs.Text.{Holds, text_of};
+
     // ch at the cursor, and what stood from there on one place further.
+    #[tactic(auto, using(crate::proofs::TextLaws::inserted_end))]
     pub fn inserted(self, ch: u8) -> Text
-        requires { (Sound self) × (self.len < MAX-LOGICAL) }
+        requires { self.len < MAX-LOGICAL }
         ensures { Holds result (take self.index (text_of self) ++ (ch ∷ drop self.index (text_of self))) (self.index + 1) }
     {
-        let mut bytes = self.bytes;
-        let i = self.index;
-        let n = self.len;
-        octets::part::copy_down(&mut bytes, i, i + 1, n - i);
-        bytes[i] = ch;
+        let Text {
+            mut bytes,
+            len,
+            index,
+        } = self;
+        bytes.copy_within(index..len, index + 1);
+        bytes[index] = ch;
         Text {
-            bytes: bytes,
-            len: n + 1,
-            index: i + 1,
+            bytes,
+            len: len + 1,
+            index: index + 1,
         }
     }
 
     // ch in the place of the character at the cursor.
+    #[tactic(auto, using(crate::proofs::TextLaws::replaced_end))]
     pub fn replaced(self, ch: u8) -> Text
-        requires { (Sound self) × (self.index < self.len) }
+        requires { self.index < self.len }
         ensures { Holds result (set (text_of self) self.index ch) (self.index + 1) }
     {
-        let mut bytes = self.bytes;
-        let i = self.index;
-        bytes[i] = ch;
+        let Text {
+            mut bytes,
+            len,
+            index,
+        } = self;
+        bytes[index] = ch;
         Text {
-            bytes: bytes,
-            len: self.len,
-            index: i + 1,
+            bytes,
+            len,
+            index: index + 1,
         }
     }
 
     // ch behind the last character.
+    #[tactic(auto, using(crate::proofs::TextLaws::extended_end))]
     pub fn extended(self, ch: u8) -> Text
-        requires { (Sound self) × (self.len < MAX-LOGICAL) }
+        requires { self.len < MAX-LOGICAL }
         ensures { Holds result (text_of self ++ (ch ∷ [])) (self.index + 1) }
     {
-        let mut bytes = self.bytes;
-        let n = self.len;
-        bytes[n] = ch;
+        let Text {
+            mut bytes,
+            len,
+            index,
+        } = self;
+        bytes[len] = ch;
         Text {
-            bytes: bytes,
-            len: n + 1,
-            index: self.index + 1,
+            bytes,
+            len: len + 1,
+            index: index + 1,
         }
     }
 
     // Without the character at index at, and the cursor there.
+    #[tactic(auto, using(crate::proofs::TextLaws::removed_end))]
     pub fn removed(self, at: usize) -> Text
-        requires { (Sound self) × (at < self.len) }
+        requires { at < self.len }
         ensures { Holds result (take at (text_of self) ++ drop (at + 1) (text_of self)) at }
     {
-        let mut bytes = self.bytes;
-        let n = self.len;
-        octets::part::copy_up(&mut bytes, at + 1, at, n - 1 - at);
+        let Text { mut bytes, len, .. } = self;
+        bytes.copy_within(at + 1..len, at);
         Text {
-            bytes: bytes,
-            len: n - 1,
+            bytes,
+            len: len - 1,
             index: at,
         }
     }
 
     // The characters before the cursor.
+    #[tactic(auto, using(crate::proofs::TextLaws::cut_end))]
     pub fn cut(self) -> Text
-        requires { Sound self }
         ensures { Holds result (take self.index (text_of self)) self.index }
     {
-        let bytes = self.bytes;
-        let i = self.index;
+        let Text { bytes, index, .. } = self;
         Text {
-            bytes: bytes,
-            len: i,
-            index: i,
+            bytes,
+            len: index,
+            index,
         }
     }
 }

@@ -1,15 +1,9 @@
--- The loops of `line::plan::write_rows`.
-use Prim.Native.Nat.{◌-◌, ◌≤◌}
-use lib.ListN.{take}
+-- The loop of `line::plan::write_rows`.
 use Rattle.line.specs.Splice.{line_rows}
-use Rattle.line.specs.Plan.{ChangedTo}
 use Rattle.line.proofs.PlanLaws.{rows_to}
 use Rattle.grid.specs.Screen.{blank_row}
 use Rattle.grid.specs.Record.{rows_of, Becomes}
 use Rattle.line.proofs.plan.write_rows.Given as goal
 
 abbrev pub invariant-loop-r : goal.invariant-loop-r
-invariant-loop-r l = (l.r ≤ l.e) × (l.e ≤ l.p.rows) × ChangedTo l.p l.e × Becomes l.initial.rec l.rec (rows_to (rows_of l.old) (line_rows l.p.lines l.w l.attr (take l.len l.text)) (blank_row l.w l.attr) l.p l.r)
-
-abbrev pub decreases-loop-r : goal.decreases-loop-r
-decreases-loop-r l = l.e - l.r
+invariant-loop-r l = Becomes l.initial.rec l.rec (rows_to (rows_of l.old) (line_rows l.p.lines l.w l.attr l.text) (blank_row l.w l.attr) l.p l.r)
