@@ -1,16 +1,13 @@
 -- `lines`: the keys that take out, join, submit or end a logical line.
 -- Assumes nothing.
 use Prim.Native.Nat.{ℕ, ◌+◌, ◌-◌, ◌*◌, ◌≤◌, ◌<◌}
-use mathlib.Core.Path.{◌≡◌, refl, sym, ap, ap₂, ◌∙◌, subst}
-use mathlib.Core.Bool.{Bool, true, false, not, ◌&&◌}
+use mathlib.Core.Path.{◌≡◌, sym, ap, ap₂, ◌∙◌, subst}
+use mathlib.Core.Bool.{Bool, true, false, ◌&&◌}
 use mathlib.Core.List.{List}
 use native.Mathlib.Omega.{arith}
-use native.Mathlib.Nat.{mul-le-mul}
-use mir.Syntax.{w64}
-use mir.Val.{Fits}
 use lib.Dec.{leb, ltb, eqb}
 use lib.ListN.{length, take, set}
-use borrow.Author.Tests.{not-true, not-false, eq-eqb, ne_eqb, lt-ltb, le-ltb, le-leb, lt-leb, ltb-true}
+use borrow.Author.Tests.{eq-eqb, ne_eqb, lt-ltb, le-ltb, le-leb, lt-leb, ltb-true}
 use Rattle.grid.specs.Screen.{Row, Screen, row_at, flag_row, set_flag, with_cursor, with_rows, move_to, editable, is_empty, trim}
 use Rattle.values.specs.Cursor.{at}
 use Rattle.grid.specs.Record.{row_of, rows_of, head_of, screen_of, Becomes, Leaves}
@@ -18,18 +15,17 @@ use Rattle.grid.specs.Facts.{HeadFacts}
 use Rattle.values.specs.declared.cursor.Cursor.{Cursor}
 use Rattle.grid.specs.declared.head.Head.{Head}
 use Rattle.octets.proofs.Bools.{and_left}
-use Rattle.grid.proofs.Validity.{head_is}
 use Rattle.line.specs.Line.{MAX-LOGICAL, start_of, end_of, row_text, reading, line_text}
 use Rattle.line.specs.Given.{Known, SpanIs}
 use Rattle.line.specs.Text.{Reads}
 use Rattle.line.specs.declared.reading.Reading.{Reading}
-use Rattle.line.proofs.CharsLaws.{rows_fit}
 use Rattle.editor.specs.declared.print.Went.{Went}
 use Rattle.editor.specs.Print.{row_is_blank, next_row}
 use Rattle.editor.specs.Lines.{ctrl_enter, take_logical_line, too_long, on_blank_end}
 use Rattle.editor.specs.Call.{CtrlEnter, rule, apply}
 use Rattle.editor.specs.Given.{Copied, Advances}
 use Rattle.editor.proofs.PrintLaws.{row_is}
+use Rattle.editor.proofs.TypingLaws.{still}
 
 -- a flag set in the record l, of which old is a copy
 flag_left : (l m old : List ℕ) (r f : ℕ) → l ≡ old → r < 25 → Becomes l m (set (rows_of l) r (flag_row f (row_of l r))) → Becomes l m (set_flag (rows_of old) r f)
@@ -38,9 +34,6 @@ flag_left l m old r f e h b =
     let k : set (rows_of l) r (flag_row f (row_of l r)) ≡ set (rows_of old) r (flag_row f (row_at (rows_of old) r)) =
     ap (λ (x : List ℕ). set (rows_of x) r (flag_row f (row_of x r))) e ∙ ap (λ (x : Row). set (rows_of old) r (flag_row f x)) (sym (row_is old r h)) in
     record { size = b.size; front = b.front; rows = b.rows ∙ k }
-
-sum_fits : (k w n : ℕ) → k ≤ 25 → w ≤ 80 → n ≤ 255 → k * w + n < 18446744073709551616
-sum_fits k w n hk hw hn = omega (arith, mul-le-mul hk hw)
 
 -- ---- the cursor's row, its span and the width, as the rules read them from the record
 
@@ -77,11 +70,11 @@ module _ (l : List ℕ) (h : Head) (known : Known l h) (start end : ℕ) (span :
       ∙ ap (λ (z : ℕ). length (reading (screen_of l) (h.cursor.row + 1) z)) (sym next.last) ∙ sym reads.count in
       sym (λ i. a i && ltb MAX-LOGICAL ((row₀ i - start₀ i + 1) * width₀ i + n i))
 
-  -- ---- on_blank_end: u is what row_is_blank has answered
+  -- ---- on_blank_end: u is what row_is_blank has answered, t the code's answer
 
-  pub span_short : end ≤ start → false ≡ on_blank_end (screen_of l)
+  pub span_short : (t : Bool) → t ≡ false → end ≤ start → t ≡ on_blank_end (screen_of l)
   unfolding on_blank_end
-  span_short k = rw (start₀, end₀, le-ltb start end k)
+  span_short t fails k = rw (start₀, end₀, le-ltb start end k) fails
 
   blank_is : (u : Bool) → u ≡ is_empty (trim (take h.width (row_of l end).chars)) → row_is_blank (screen_of l) end ≡ u
   unfolding row_is_blank row_text
@@ -89,55 +82,30 @@ module _ (l : List ℕ) (h : Head) (known : Known l h) (start end : ℕ) (span :
       let k : end < 25 = omega (arith, span.inside, known.facts.edit_to) in
       ap₂ (λ (w : ℕ) (x : Row). is_empty (trim (take w x.chars))) width₀ (row_is l end k) ∙ sym eu
 
-  pub not_blank : (u : Bool) → start < end → u ≡ is_empty (trim (take h.width (row_of l end).chars)) → not u ≡ true → false ≡ on_blank_end (screen_of l)
+  pub not_blank : (u t : Bool) → t ≡ false → start < end → u ≡ is_empty (trim (take h.width (row_of l end).chars)) → t ≡ u → t ≡ on_blank_end (screen_of l)
   unfolding on_blank_end
-  not_blank u k eu n = rw (start₀, end₀, lt-ltb start end k, blank_is u eu, not-true u n)
+  not_blank u t fails k eu same = rw (start₀, end₀, lt-ltb start end k, blank_is u eu, ← same, fails)
 
-  module _ (u : Bool) (k : start < end) (eu : u ≡ is_empty (trim (take h.width (row_of l end).chars))) (n : not u ≡ false) where
-    rest_is : eqb h.cursor.row end && eqb h.cursor.col 0 ≡ on_blank_end (screen_of l)
-    unfolding on_blank_end
-    rest_is =
-        let a : ltb (start_of (screen_of l) (head_of l).cursor.row) (end_of (screen_of l) (head_of l).cursor.row) ≡ true =
-        ap₂ ltb start₀ end₀ ∙ lt-ltb start end k in
-        let b : row_is_blank (screen_of l) (end_of (screen_of l) (head_of l).cursor.row) ≡ true =
-        ap (row_is_blank (screen_of l)) end₀ ∙ blank_is u eu ∙ not-false u n in
-        sym (λ i. a i && (b i && (eqb (row₀ i) (end₀ i) && eqb (col₀ i) 0)))
-
-    pub blank_here : h.cursor.row ≡ end → eqb h.cursor.col 0 ≡ on_blank_end (screen_of l)
-    blank_here e = rw (eq-eqb h.cursor.row end e) at rest_is
-
-    pub blank_elsewhere : (h.cursor.row ≡ end → ⊥) → eqb h.cursor.row end ≡ on_blank_end (screen_of l)
-    blank_elsewhere ne = ne_eqb _ _ ne ∙ (rw (ne_eqb h.cursor.row end ne) at rest_is)
-
-  -- ---- what the code computes on the way fits
-
-  below : end < 25
-  below = omega (arith, span.inside, known.facts.edit_to)
-
-  pub long_mul : Fits w64 ((h.cursor.row - start + 1) * h.width)
-  long_mul = rows_fit (h.cursor.row - start + 1) h.width (omega (arith, below, span.to)) (omega (arith, known.facts))
-
-  pub long_add : (cs : List ℕ) (t : Reading) → Reads t cs → Fits w64 ((h.cursor.row - start + 1) * h.width + t.len)
-  long_add cs t reads =
-      let a = long_mul.fits in
-      record { fits = sum_fits (h.cursor.row - start + 1) h.width t.len (omega (arith, below, span.to)) known.facts.width_to reads.fits }
+  pub blank_there : (u v t : Bool) (c : Cursor) → start < end → u ≡ is_empty (trim (take h.width (row_of l end).chars)) → v ≡ u → v ≡ true → c ≡ at end 0
+      → t ≡ (eqb h.cursor.row c.row && eqb h.cursor.col c.col) → t ≡ on_blank_end (screen_of l)
+  unfolding on_blank_end
+  blank_there u v t c k eu same holds is e =
+      rw (start₀, end₀, lt-ltb start end k, blank_is u eu, sym same ∙ holds, row₀, col₀)
+      (e ∙ ap (λ (x : Cursor). eqb h.cursor.row x.row && eqb h.cursor.col x.col) is)
 
 -- ---- ctrl_enter
 
 module _ (l old : List ℕ) (h : Head) (copied : Copied l old) (ih : h ≡ head_of old) (e : ℕ) (ie : e ≡ editable h.keys) where
-  stays : Leaves (screen_of old) l l h
-  stays = record { becomes = record { size = copied.size; front = refl; rows = ap rows_of copied.copy }; head = ih }
-
   pub ctrl_last : e ≤ h.cursor.row + 1 → Leaves (apply CtrlEnter (screen_of old)) l l h
   unfolding apply rule ctrl_enter
-  ctrl_last k = rw (le-leb (editable (head_of old).keys) ((head_of old).cursor.row + 1) (subst (λ (x : Head). editable x.keys ≤ x.cursor.row + 1) ih (omega arith))) stays
+  ctrl_last k = rw (le-leb (editable (head_of old).keys) ((head_of old).cursor.row + 1) (subst (λ (x : Head). editable x.keys ≤ x.cursor.row + 1) ih (omega arith))) (still copied ih)
 
   next : h.cursor.row + 1 < e → leb (editable (head_of old).keys) ((head_of old).cursor.row + 1) ≡ false
   next k = lt-leb _ _ (subst (λ (x : Head). x.cursor.row + 1 < editable x.keys) ih (omega arith))
 
   pub ctrl_held : (t : Bool) → h.cursor.row + 1 < e → t ≡ too_long (screen_of old) → t ≡ true → Leaves (apply CtrlEnter (screen_of old)) l l h
   unfolding apply rule ctrl_enter too_long
-  ctrl_held t k is y = rw (next k, sym is ∙ y) stays
+  ctrl_held t k is y = rw (next k, sym is ∙ y) (still copied ih)
 
   pub ctrl_done : (t : Bool) (m : List ℕ) (g : Head) (c : Cursor) → h.cursor.row + 1 < e → t ≡ too_long (screen_of old) → t ≡ false
       → Becomes l m (set (rows_of l) h.cursor.row (flag_row 1 (row_of l h.cursor.row))) → c ≡ at (h.cursor.row + 1) 0
@@ -159,9 +127,6 @@ module _ (l old : List ℕ) (h : Head) (copied : Copied l old) (ih : h ≡ head_
   last_row : end < 25
   last_row = omega (arith, span.inside, head_facts.edit_to)
 
-  pub end_below : end - 1 < 25
-  end_below = omega (arith, last_row)
-
   pub end_low : t ≡ true → 1 ≤ end
   unfolding on_blank_end
   end_low y =
@@ -177,13 +142,6 @@ module _ (l old : List ℕ) (h : Head) (copied : Copied l old) (ih : h ≡ head_
       let d : end_of (screen_of old) (head_of old).cursor.row ≡ end = sym (span.last ∙ ap (λ (x : Head). end_of (screen_of old) x.cursor.row) ih) in
       let k : end - 1 < 25 = omega (arith, last_row) in
       rw (sym is ∙ y, d) (record { becomes = flag_left l m old (end - 1) 0 copied.copy k b; head = ih })
-
-  -- the first column of any row up to the span's last is a place for the cursor
-  pub begins_row : (g : Head) (c : Cursor) (r : ℕ) → c ≡ at r 0 → g ≡ with_cursor h c → r ≤ end → HeadFacts g
-  begins_row g c r ec eg k =
-      let f = head_facts in
-      rw (eg, ec)
-      (head_is _ f.widths (omega (arith, span.inside)) (omega (arith, f.width_from)) f.insert f.cr f.keys f.foreground f.background)
 
   module _ (g : Head) (c : Cursor) (ec : c ≡ at end 0) (eg : g ≡ with_cursor h c) where
     at_end : g ≡ with_cursor h (at end 0)

@@ -3,33 +3,33 @@
 -- Assumes nothing.
 use Prim.Native.Nat.{ℕ, ◌+◌, ◌-◌, ◌≤◌, ◌<◌}
 use mathlib.Core.Path.{◌≡◌, refl, sym, ap, ap₂, ◌∙◌, subst}
-use mathlib.Core.Bool.{Bool, true, false, not, ◌&&◌}
+use mathlib.Core.Bool.{Bool, true, false, not}
 use mathlib.Core.Bool
 use mathlib.Core.List.{List, [], ◌∷◌}
-use native.Mathlib.Numerals.{add-one}
+use mathlib.Core.Logic.{◌≢◌}
 use native.Mathlib.Omega.{arith}
-use lib.Dec.{eqb}
+use lib.Dec.{ltb, eqb}
 use mir.Syntax.{w64}
 use mir.Val.{Fits}
-use lib.ListN.{length, get_or, take, drop, set, length-drop}
-use lib.Seq.{take-suc, take_all, take-take, length-take-le}
+use lib.ListN.{length, get_or, take, drop, set}
+use lib.Seq.{length-take-le}
 use borrow.Author.Tests.{not-true, not-false, ltb-true, lt-ltb, le-ltb, eq-eqb, ne_eqb}
 use Rattle.std.specs.Prelude.{if◌then◌else◌}
 use Rattle.grid.specs.Layout.{SIZE, FLAGS}
-use Rattle.grid.specs.Screen.{Screen, with_cursor, with_rows, move_to, no_row, row_at, flag_row, set_flag, put_cell, scrolled, blank_row, editable, printable, is_empty, trim_by, is_space, trim}
+use Rattle.grid.specs.Screen.{Screen, with_cursor, with_rows, move_to, no_row, row_at, flag_row, set_flag, put_cell, scrolled, blank_row, editable, printable, is_empty, trim}
 use Rattle.values.specs.Cursor.{at}
-use Rattle.octets.specs.Test.{every}
 use Rattle.grid.specs.Record.{row_of, rows_of, head_of, screen_of, Becomes, Leaves}
-use Rattle.grid.specs.Facts.{HeadFacts, ScreenFacts, Valid}
+use Rattle.grid.specs.Facts.{HeadFacts, ScreenFacts}
 use Rattle.values.specs.declared.cursor.Cursor.{Cursor}
 use Rattle.grid.specs.declared.head.Head.{Head}
-use Rattle.octets.proofs.Bools.{pick, skip, and_left, and_right, count_turn, every_snoc}
-use Rattle.grid.proofs.RowLaws.{full_row, get_d_rows, and_then}
+use Rattle.octets.proofs.Bools.{pick, skip, and_left, and_right}
+use Rattle.grid.proofs.RowLaws.{get_d_rows, and_then}
 use Rattle.line.specs.Line.{flagged, row_text}
 use Rattle.editor.specs.Print.{Advanced, still, scroll, next_row, row_is_blank, newline, write_cell, put_char, print_byte, print, wrapped}
 use Rattle.editor.specs.declared.print.Went.{Went}
-use Rattle.editor.specs.declared.print.Run.{Run}
-use Rattle.editor.specs.Given.{Advances, Runs}
+use Rattle.editor.specs.declared.print.Effect.{Effect}
+use Rattle.editor.specs.declared.print.Effect.TheVariants.{Newline, Char, Nothing}
+use Rattle.editor.specs.Given.{Advances, Effects, effected}
 use Rattle.editor.specs.Lines.{break_line}
 use Rattle.editor.specs.Call.{PrintBytes, BreakLine, rule, apply, last_cr}
 use Rattle.line.proofs.Kept.{valid_kept}
@@ -46,55 +46,31 @@ module _ {l m : List ℕ} {w : Went} (b : Bool) (x y : Advanced) where
   pub goes_else : b ≡ false → Advances y l m w → Advances (if b then x else y) l m w
   goes_else e p = rw (skip b x y e) p
 
-pub goes_still : (l : List ℕ) (h : Head) → length l ≡ SIZE → Advances (still (record { head = h; rows = rows_of l })) l l (record { head = h; scrolls = 0 })
-goes_still l h len = record { becomes = record { size = len; front = refl; rows = refl }; head = refl; scrolls = refl }
+pub goes_still : (l : List ℕ) (h : Head) (w : Went) → length l ≡ SIZE → w ≡ record { head = h; scrolls = 0 }
+    → Advances (still (record { head = h; rows = rows_of l })) l l w
+goes_still l h w len here = rw here (record { becomes = record { size = len; front = refl; rows = refl }; head = refl; scrolls = refl })
 
 pub row_is : (l : List ℕ) (r : ℕ) → r < 25 → row_at (rows_of l) r ≡ row_of l r
 unfolding row_at
 row_is l r h = get_d_rows l r no_row h
 
--- ---- row_is_blank: bad counts what is no space among the first c characters, and k is 1 for one that is none
+-- ---- row_is_blank: n is the length of the row's text
 
-empty_every : (p : ℕ → Bool) (cs : List ℕ) → is_empty (trim_by p cs) ≡ every p cs
-unfolding is_empty trim_by every
-empty_every p [] = refl
-empty_every p (c ∷ cs) = chosen (p c && is_empty (trim_by p cs)) ∙ ap (λ (b : Bool). p c && b) (empty_every p cs)
-  where
-    chosen : (b : Bool) → is_empty (if b then [] else c ∷ trim_by p cs) ≡ b
-    chosen true = refl
-    chosen false = refl
-
-module _ (l : List ℕ) (r : ℕ) where
-  pub spaces_start : eqb 0 0 ≡ every is_space (take 0 (row_of l r).chars)
-  unfolding every
-  spaces_start = refl
-
-  pub spaces_turn : (w c bad k ch : ℕ) → length l ≡ SIZE → r < 25 → w ≤ 80 → c < w → eqb bad 0 ≡ every is_space (take c (row_of l r).chars)
-      → ch ≡ get_or (row_of l r).chars c 0 → k ≡ (if is_space ch then 0 else 1) → eqb (bad + k) 0 ≡ every is_space (take (c + 1) (row_of l r).chars)
-  spaces_turn w c bad k ch len below wide h e is ek =
-      let cs : List ℕ = (row_of l r).chars in
-      let f = (full_row l r len below).chars80 in
-      count_turn bad k (every is_space (take c cs)) (is_space (get_or cs c 0)) e (ek ∙ ap (λ (x : ℕ). if is_space x then 0 else 1) is)
-      ∙ sym
-      (ap (λ (i : ℕ). every is_space (take i cs)) (add-one c) ∙ ap (every is_space) (take-suc cs c 0 (omega arith))
-      ∙ every_snoc is_space (take c cs) (get_or cs c 0))
-
-  pub spaces_end : (w c bad : ℕ) → c ≤ w → w ≤ c → eqb bad 0 ≡ every is_space (take c (row_of l r).chars)
-      → eqb bad 0 ≡ is_empty (trim (take w (row_of l r).chars))
-  unfolding trim
-  spaces_end w c bad h k e =
-      let done : c ≡ w = omega arith in
-      rw done at e ∙ sym (empty_every is_space (take w (row_of l r).chars))
+pub no_text : (cs : List ℕ) (n : ℕ) → n ≡ length cs → eqb n 0 ≡ is_empty cs
+unfolding is_empty
+no_text [] n e = rw e
+no_text (c ∷ cs) n e = ne_eqb n 0 (λ q. absurd (omega arith))
 
 -- ---- next_row: e is what editable_rows has answered
 
 module _ (l : List ℕ) (h g : Head) (c : Cursor) (e : ℕ) (is : e ≡ editable h.keys) (goes : g ≡ with_cursor h c) where
-  pub next_below : length l ≡ SIZE → h.cursor.row + 1 < e → c ≡ at (h.cursor.row + 1) 0
-      → Advances (next_row (record { head = h; rows = rows_of l })) l l (record { head = g; scrolls = 0 })
+  pub next_below : (w : Went) → length l ≡ SIZE → h.cursor.row + 1 < e → c ≡ at (h.cursor.row + 1) 0 → w ≡ record { head = g; scrolls = 0 }
+      → Advances (next_row (record { head = h; rows = rows_of l })) l l w
   unfolding next_row move_to
-  next_below len lt to =
-      goes_then _ _ _ (lt-ltb (h.cursor.row + 1) (editable h.keys) (omega arith))
-      (record { becomes = record { size = len; front = refl; rows = refl }; head = goes ∙ ap (with_cursor h) to; scrolls = refl })
+  next_below w len lt to here =
+      rw here
+      (goes_then _ _ _ (lt-ltb (h.cursor.row + 1) (editable h.keys) (omega arith))
+      (record { becomes = record { size = len; front = refl; rows = refl }; head = goes ∙ ap (with_cursor h) to; scrolls = refl }))
 
   pub next_last : (m : List ℕ) → e ≤ h.cursor.row + 1 → c ≡ at h.cursor.row 0 → Becomes l m (scrolled (rows_of l) e (blank_row h.width h.attr))
       → Advances (next_row (record { head = h; rows = rows_of l })) l m (record { head = g; scrolls = 1 })
@@ -108,28 +84,28 @@ module _ (l : List ℕ) (h g : Head) (c : Cursor) (e : ℕ) (is : e ≡ editable
 abbrev pub wraps : List ℕ → Head → Bool
 wraps l h = wrapped (record { head = h; rows = rows_of l })
 
-module _ (l : List ℕ) (h : Head) (facts : HeadFacts h) where
-  pub wraps_col : (h.cursor.col ≡ 0 → ⊥) → false ≡ wraps l h
+module _ (l : List ℕ) (h : Head) (v : Bool) (no : v ≡ false) where
+  pub wraps_col : h.cursor.col ≢ 0 → v ≡ wraps l h
   unfolding wrapped
-  wraps_col ne = rw (ne_eqb h.cursor.col 0 ne)
+  wraps_col ne = rw (ne_eqb h.cursor.col 0 ne) no
 
-  pub wraps_row : h.cursor.row ≡ 0 → false ≡ wraps l h
+  pub wraps_row : ltb 0 h.cursor.row ≡ false → v ≡ wraps l h
   unfolding wrapped
-  wraps_row e = simp (le-ltb 0 h.cursor.row (omega arith), Bool.and-false)
+  wraps_row e = simp (e, Bool.and-false) no
 
-  pub wraps_flag : (f : ℕ) → f ≡ (row_of l (h.cursor.row - 1)).flag → (f ≡ 1 → ⊥) → false ≡ wraps l h
+  pub wraps_flag : (f : ℕ) → HeadFacts h → f ≡ (row_of l (h.cursor.row - 1)).flag → eqb f 1 ≡ false → v ≡ wraps l h
   unfolding wrapped flagged
-  wraps_flag f is ne =
+  wraps_flag f facts is ne =
       let above = row_is l (h.cursor.row - 1) (omega arith) in
-      simp (above, ne_eqb (row_of l (h.cursor.row - 1)).flag 1 (λ q. ne (is ∙ q)), Bool.and-false)
+      simp (above, ← is, ne, Bool.and-false) no
 
-  pub wraps_blank : (f : ℕ) (t : Bool) → h.cursor.col ≡ 0 → (h.cursor.row ≡ 0 → ⊥) → f ≡ (row_of l (h.cursor.row - 1)).flag → f ≡ 1
-      → t ≡ is_empty (trim (take h.width (row_of l h.cursor.row).chars)) → t ≡ wraps l h
-  unfolding wrapped flagged row_is_blank row_text
-  wraps_blank f t col row is on e =
-      let above = row_is l (h.cursor.row - 1) (omega arith) in
-      let here = row_is l h.cursor.row (omega arith) in
-      rw (eq-eqb h.cursor.col 0 col, lt-ltb 0 h.cursor.row (omega arith), above, eq-eqb (row_of l (h.cursor.row - 1)).flag 1 (sym is ∙ on), here) e
+pub wraps_blank : (l : List ℕ) (h : Head) (f : ℕ) (t : Bool) → HeadFacts h → h.cursor.col ≡ 0 → 0 < h.cursor.row
+    → f ≡ (row_of l (h.cursor.row - 1)).flag → eqb f 1 ≡ true → t ≡ is_empty (trim (take h.width (row_of l h.cursor.row).chars)) → t ≡ wraps l h
+unfolding wrapped flagged row_is_blank row_text
+wraps_blank l h f t facts col row is on e =
+    let above = row_is l (h.cursor.row - 1) (omega arith) in
+    let here = row_is l h.cursor.row (omega arith) in
+    rw (eq-eqb h.cursor.col 0 col, lt-ltb 0 h.cursor.row row, above, ← is, on, here) e
 
 -- ---- newline: t is what wrapped has answered
 
@@ -145,12 +121,12 @@ module _ (l m : List ℕ) (h : Head) (t : Bool) (is : t ≡ wraps l h) where
   unfolding newline
   newline_next w n p = goes_else _ _ _ (sym is ∙ not-true t n) p
 
-  pub newline_back : HeadFacts h → not t ≡ false → Becomes l m (set (rows_of l) (h.cursor.row - 1) (flag_row 0 (row_of l (h.cursor.row - 1))))
-      → Advances (newline (record { head = h; rows = rows_of l })) l m (record { head = h; scrolls = 0 })
+  pub newline_back : (w : Went) → HeadFacts h → not t ≡ false → Becomes l m (set (rows_of l) (h.cursor.row - 1) (flag_row 0 (row_of l (h.cursor.row - 1))))
+      → w ≡ record { head = h; scrolls = 0 } → Advances (newline (record { head = h; rows = rows_of l })) l m w
   unfolding newline with_rows set_flag
-  newline_back facts n p =
+  newline_back w facts n p here =
       let above = row_is l (h.cursor.row - 1) (omega arith) in
-      goes_then _ _ _ (sym is ∙ not-false t n) (record { becomes = rw above p; head = refl; scrolls = refl })
+      rw here (goes_then _ _ _ (sym is ∙ not-false t n) (record { becomes = rw above p; head = refl; scrolls = refl }))
 
 -- ---- wrap: m has the flag, and n is what next_row has left
 
@@ -171,12 +147,13 @@ module _ (l m : List ℕ) (h : Head) (ch : ℕ) (facts : HeadFacts h)
       let here = row_is l h.cursor.row (omega arith) in
       rw (here, put.rows)
 
-  pub put_inside : (g : Head) (c : Cursor) → h.cursor.col + 1 < h.width → c ≡ at h.cursor.row (h.cursor.col + 1) → g ≡ with_cursor h c
-      → Advances (put_char (record { head = h; rows = rows_of l }) ch) l m (record { head = g; scrolls = 0 })
+  pub put_inside : (g : Head) (c : Cursor) (w : Went) → h.cursor.col + 1 < h.width → c ≡ at h.cursor.row (h.cursor.col + 1) → g ≡ with_cursor h c
+      → w ≡ record { head = g; scrolls = 0 } → Advances (put_char (record { head = h; rows = rows_of l }) ch) l m w
   unfolding put_char move_to
-  put_inside g c lt to goes =
-      goes_then _ _ _ (lt-ltb (h.cursor.col + 1) h.width lt)
-      (rw written (record { becomes = record { size = put.size; front = put.front; rows = refl }; head = goes ∙ ap (with_cursor h) to; scrolls = refl }))
+  put_inside g c w lt to goes here =
+      rw here
+      (goes_then _ _ _ (lt-ltb (h.cursor.col + 1) h.width lt)
+      (rw written (record { becomes = record { size = put.size; front = put.front; rows = refl }; head = goes ∙ ap (with_cursor h) to; scrolls = refl })))
 
   -- n is what wrap has left
   pub put_last : (n : List ℕ) (w : Went) → h.width ≤ h.cursor.col + 1
@@ -186,18 +163,48 @@ module _ (l m : List ℕ) (h : Head) (ch : ℕ) (facts : HeadFacts h)
       goes_else _ _ _ (le-ltb (h.cursor.col + 1) h.width le)
       (rw written (record { becomes = and_then put p.becomes refl; head = p.head; scrolls = p.scrolls }))
 
--- ---- print_byte: t is what is_printable has answered
+-- ---- effect_of: t is what is_printable has answered
 
-module _ (l : List ℕ) (h : Head) (cr t : Bool) (b : ℕ) (not13 : b ≡ 13 → ⊥) (not10 : b ≡ 10 → ⊥) (is : t ≡ printable b) where
-  pub byte_put : (m : List ℕ) (w : Went) → t ≡ true → Advances (put_char (record { head = h; rows = rows_of l }) b) l m w
-      → Advances (print_byte cr (record { head = h; rows = rows_of l }) b) l m w
-  unfolding print_byte
-  byte_put m w e p = goes_else _ _ _ (ne_eqb b 13 not13) (goes_else _ _ _ (ne_eqb b 10 not10) (goes_then _ _ _ (sym is ∙ e) p))
+module _ (cr : Bool) (b : ℕ) where
+  pub thirteen : b ≡ 13 → Effects cr b Newline
+  unfolding print_byte effected
+  thirteen e = record { does = λ s. rw e }
 
-  pub byte_ignored : length l ≡ SIZE → t ≡ false → Advances (print_byte cr (record { head = h; rows = rows_of l }) b) l l (record { head = h; scrolls = 0 })
-  unfolding print_byte
-  byte_ignored len e =
-      goes_else _ _ _ (ne_eqb b 13 not13) (goes_else _ _ _ (ne_eqb b 10 not10) (goes_else _ _ _ (sym is ∙ e) (goes_still l h len)))
+  pub ten_alone : b ≡ 10 → cr ≡ false → Effects cr b Newline
+  unfolding print_byte effected
+  ten_alone e f = record { does = λ s. rw (e, f) }
+
+  pub ten_after : b ≡ 10 → cr ≡ true → Effects cr b Nothing
+  unfolding print_byte effected
+  ten_after e f = record { does = λ s. rw (e, f) }
+
+  module _ (t : Bool) (not13 : b ≢ 13) (not10 : b ≢ 10) (is : t ≡ printable b) where
+    pub char : t ≡ true → Effects cr b Char
+    unfolding print_byte effected
+    char e = record { does = λ s. rw (ne_eqb b 13 not13, ne_eqb b 10 not10, ← is, e) }
+
+    pub ignored : t ≡ false → Effects cr b Nothing
+    unfolding print_byte effected
+    ignored e = record { does = λ s. rw (ne_eqb b 13 not13, ne_eqb b 10 not10, ← is, e) }
+
+-- ---- print_byte: e is what effect_of has answered
+
+module _ (l m : List ℕ) (h : Head) (cr : Bool) (b : ℕ) (e : Effect) (w : Went) (effect : Effects cr b e) where
+  abbrev before : Screen
+  before = record { head = h; rows = rows_of l }
+
+  pub line_ended : e ≡ Newline → Advances (newline before) l m w → Advances (print_byte cr before b) l m w
+  unfolding effected
+  line_ended is p = rw (effect.does before, is) p
+
+  pub char_put : e ≡ Char → Advances (put_char before b) l m w → Advances (print_byte cr before b) l m w
+  unfolding effected
+  char_put is p = rw (effect.does before, is) p
+
+pub byte_ignored : (l : List ℕ) (h : Head) (cr : Bool) (b : ℕ) (e : Effect) (w : Went) → Effects cr b e → e ≡ Nothing → length l ≡ SIZE
+    → w ≡ record { head = h; scrolls = 0 } → Advances (print_byte cr (record { head = h; rows = rows_of l }) b) l l w
+unfolding effected
+byte_ignored l h cr b e w effect is len here = rw (effect.does (record { head = h; rows = rows_of l }), is) (goes_still l h w len here)
 
 -- ---- print_piece, and with it print_waiting: from the screen s, where start says that 13 stood before, the first i bytes are printed and have made n scrolls;
 -- cr says that the last of them was 13
@@ -222,14 +229,6 @@ module _ (start : Bool) (bs l : List ℕ) (h₀ : Head) where
       bit : (t : Bool) → t ≡ eqb (if t then 1 else 0) 1
       bit true = refl
       bit false = refl
-
-  so_far : (i : ℕ) (m : List ℕ) (h : Head) (n : ℕ) {cr : Bool} → Printing start first bs l m i cr h n → Advances (print start first (take i bs)) l m (record { head = h; scrolls = n })
-  so_far i m h n p =
-      record {
-        becomes = record { size = p.size; front = p.front; rows = ap (λ (x : Screen). x.rows) p.done };
-        head = ap (λ (x : Screen). x.head) p.done;
-        scrolls = p.count;
-      }
 
   module _ (m : List ℕ) (i n : ℕ) (cr : Bool) (h : Head) (p : Printing start first bs l m i cr h n) where
     -- ---- one byte more
@@ -274,74 +273,18 @@ module _ (start : Bool) (bs l : List ℕ) (h₀ : Head) where
             last = sym (ap (λ (k : ℕ). follows start (take k bs)) (sym before) ∙ last_next bs (j - 1) (omega arith) start);
           }
 
-      -- no more scrolls than bytes, so their number fits
-      piece_fits : Fits w64 j → Fits w64 (n + w.scrolls)
-      piece_fits f =
-          let few : length (take j bs) ≡ j = length-take-le j bs within in
-          record { fits = omega (arith, f.fits, few, piece_on.count, bytes_most (take j bs) start first) }
+    -- ---- print_piece: w is what print_byte has handed back, and g the head with its cursor
 
-    -- ---- print_run: no row was scrolled before; w is what print_byte has handed back, and g the head with its cursor
+    module _ (m' : List ℕ) (w : Went) (lt : i < length bs) (q : Advances (print_byte cr here (get_or bs i 0)) m m' w) where
+      pub turn_fits : Fits w64 (length bs) → Fits w64 (n + w.scrolls)
+      turn_fits f =
+          let few : length (take (i + 1) bs) ≡ i + 1 = length-take-le (i + 1) bs (omega arith) in
+          record { fits = omega (arith, f.fits, few, (run_turn m' w lt q).count, bytes_most (take (i + 1) bs) start first) }
 
-    module _ (none : n ≡ 0) where
-      module _ (m' : List ℕ) (w : Went) (g : Head) (lt : i < length bs) (q : Advances (print_byte cr here (get_or bs i 0)) m m' w) (moved : g ≡ with_cursor h w.head.cursor) where
-        one_more : Printing start first bs l m' (i + 1) (eqb (get_or bs i 0) 13) g w.scrolls
-        one_more =
-            let same : w.head ≡ g = sym (moved ∙ ap (λ (x : Head). with_cursor h x.cursor) q.head ∙ byte_only cr here (get_or bs i 0) ∙ sym q.head) in
-            let count : n + w.scrolls ≡ w.scrolls = omega arith in
-            subst (λ (k : ℕ). Printing start first bs l m' (i + 1) (eqb (get_or bs i 0) 13) g k) count
-            (subst (λ (x : Head). Printing start first bs l m' (i + 1) (eqb (get_or bs i 0) 13) x (n + w.scrolls)) same (run_turn m' w lt q))
-
-        pub run_scrolls : Runs start first bs l m' (record { head = g; to = i + 1; scrolls = w.scrolls })
-        run_scrolls = record { to = omega arith; some = λ s. omega arith; went = so_far (i + 1) m' g w.scrolls one_more }
-
-        -- nor by this byte
-        pub run_on : w.scrolls ≤ 0 → Printing start first bs l m' (i + 1) (eqb (get_or bs i 0) 13) g 0
-        run_on nothing =
-            let zero : w.scrolls ≡ 0 = omega arith in
-            subst (λ (k : ℕ). Printing start first bs l m' (i + 1) (eqb (get_or bs i 0) 13) g k) zero one_more
-
-      pub run_end : length bs ≤ i → Runs start first bs l m (record { head = h; to = i; scrolls = 0 })
-      run_end le = record { to = p.to; some = λ s. omega arith; went = so_far i m h 0 (subst (λ (k : ℕ). Printing start first bs l m i cr h k) none p) }
-
-    -- ---- print_piece: r is what print_run has handed back of the bytes from i on
-
-    module _ (m' : List ℕ) (r : Run) (lt : i < length bs) (runs : Runs cr here (take (length bs - i) (drop i bs)) m m' r) where
-      left_over : length (take (length bs - i) (drop i bs)) ≡ length bs - i
-      left_over = length-take-le (length bs - i) (drop i bs) (omega (arith, length-drop i bs))
-
-      turn_within : i + r.to ≤ length bs
-      turn_within = omega (arith, runs.to, left_over)
-
-      turn_further : i < i + r.to
-      turn_further = omega (arith, runs.some (omega (arith, left_over)))
-
-      pub index_fits : Fits w64 (length bs) → Fits w64 (i + r.to)
-      index_fits f = record { fits = omega (arith, f.fits, turn_within) }
-
-      pub turn_some : 1 ≤ i + r.to
-      turn_some = omega (arith, turn_further)
-
-      pub turn_inside : i + r.to - 1 < length bs
-      turn_inside = omega (arith, turn_within, turn_further)
-
-      pub turn_less : length bs - (i + r.to) < length bs - i
-      turn_less = omega (arith, turn_within, turn_further)
-
-      ran : Advances (print cr here (take (i + r.to - i) (drop i bs))) m m' (record { head = r.head; scrolls = r.scrolls })
-      ran =
-          let count : r.to ≡ i + r.to - i = omega arith in
-          let same : take r.to (take (length bs - i) (drop i bs)) ≡ take (i + r.to - i) (drop i bs) =
-          take-take r.to (length bs - i) (drop i bs) (omega (arith, runs.to, left_over)) ∙ ap (λ (k : ℕ). take k (drop i bs)) count in
-          subst (λ (cs : List ℕ). Advances (print cr here cs) m m' (record { head = r.head; scrolls = r.scrolls })) same runs.went
-
-      pub piece_turn : Printing start first bs l m' (i + r.to) (eqb (get_or bs (i + r.to - 1) 0) 13) r.head (n + r.scrolls)
-      piece_turn = piece_on (i + r.to) m' (record { head = r.head; scrolls = r.scrolls }) turn_further turn_within ran
-
-      pub turn_fits : Fits w64 (length bs) → Fits w64 (n + r.scrolls)
-      turn_fits f = piece_fits (i + r.to) m' (record { head = r.head; scrolls = r.scrolls }) turn_further turn_within ran (index_fits f)
-
-    pub piece_end : length bs ≤ i → Advances (print start first bs) l m (record { head = h; scrolls = n })
-    piece_end le = subst (λ (cs : List ℕ). Advances (print start first cs) l m (record { head = h; scrolls = n })) (take_all i bs le) (so_far i m h n p)
+      pub piece_turn : (g : Head) → g ≡ with_cursor h w.head.cursor → Printing start first bs l m' (i + 1) (eqb (get_or bs i 0) 13) g (n + w.scrolls)
+      piece_turn g moved =
+          let same : w.head ≡ g = sym (moved ∙ ap (λ (x : Head). with_cursor h x.cursor) q.head ∙ byte_only cr here (get_or bs i 0) ∙ sym q.head) in
+          subst (λ (x : Head). Printing start first bs l m' (i + 1) (eqb (get_or bs i 0) 13) x (n + w.scrolls)) same (run_turn m' w lt q)
 
 -- ---- print_bytes
 
@@ -360,9 +303,3 @@ unfolding apply rule break_line
 line_broken l m h w is p =
     let left : Leaves (next_row (record { head = h; rows = rows_of l })).screen l m w.head = record { becomes = p.becomes; head = p.head } in
     rw is at left
-
-pub head_known : (l : List ℕ) (h : Head) → Valid l → h ≡ head_of l → HeadFacts h
-head_known l h v is = rw is v.screen.head
-
-pub screen_known : (l : List ℕ) (h : Head) → Valid l → h ≡ head_of l → ScreenFacts (record { head = h; rows = rows_of l })
-screen_known l h v is = rw is v.screen

@@ -2,7 +2,7 @@
 -- Assumes nothing.
 use Prim.Native.Nat.{ℕ, suc, ◌+◌, ◌-◌, ◌*◌, ◌/◌, ◌≤◌, ◌<◌}
 use mathlib.Core.Path.{◌≡◌, refl, sym, ap, ap₂, ◌∙◌, subst}
-use mathlib.Core.Bool.{Bool, true, false}
+use mathlib.Core.Bool.{Bool, true, false, ◌&&◌}
 use mathlib.Core.List.{List, ◌++◌}
 use native.Mathlib.Omega.{arith}
 use lib.Dec.{eqb}
@@ -26,7 +26,7 @@ use Rattle.line.specs.Given.{Known}
 use Rattle.editor.specs.Typing.{type_char}
 use Rattle.editor.specs.Tab.{same_cursor, type_spaces, next_stop, tab, tabbed}
 use Rattle.editor.specs.Call.{TypeChar, Tab, in_range, rule, apply, own}
-use Rattle.editor.specs.Given.{Copied, Ends, SpaceTyped}
+use Rattle.editor.specs.Given.{Ends, SpaceTyped}
 use Rattle.editor.proofs.KeptCall.{apply_facts}
 use Rattle.octets.specs.Refusals.{all_pass}
 use Rattle.grid.specs.declared.head.Stamp.{Stamp}
@@ -65,52 +65,31 @@ module _ (h : Head) (s : Stamp) (m n : List ℕ) (f : HeadFacts h) (rows : RowsF
         screen = subst ScreenFacts (sym (ap screen_of (sym is) ∙ screen_back)) (record { head = f; rows = rows });
       })
 
--- `put_head`
-pub head_put : (old m n : List ℕ) (g : Head) (s : Stamp) → s ≡ stamp_of old → n ≡ front_bytes g s ++ drop FLAGS m → n ≡ front_bytes g (stamp_of old) ++ drop FLAGS m
-head_put old m n g s es e = e ∙ ap (λ (x : Stamp). front_bytes g x ++ drop FLAGS m) es
+-- ---- type_space: m is what the key has left of the record l, stamp the record's, n the record with its head
 
--- ---- type_space: old is the copy of the record l, m what the key has left, n the record with its head
+module _ (l m : List ℕ) (g : Head) (v : Valid l) (left : Leaves (apply (TypeChar 32) (screen_of l)) l m g) where
+  typed : ScreenFacts (apply (TypeChar 32) (screen_of l))
+  unfolding in_range own all_pass rule
+  typed = apply_facts (TypeChar 32) (screen_of l) refl v.screen
 
-pub space_typed : (l old m n : List ℕ) (g : Head) → Valid l → old ≡ l → Leaves (apply (TypeChar 32) (screen_of old)) l m g
-    → n ≡ front_bytes g (stamp_of old) ++ drop FLAGS m → SpaceTyped l n g
-unfolding in_range own all_pass apply rule stamp_of
-space_typed l old m n g v copy left is =
-    let s : Screen = type_char (screen_of l) 32 in
-    let left' : Leaves s l m g = subst (λ (x : List ℕ). Leaves (type_char (screen_of x) 32) l m g) copy left in
-    let f : ScreenFacts s = apply_facts (TypeChar 32) (screen_of l) refl v.screen in
-    let hf : HeadFacts g = subst HeadFacts (sym left'.head) f.head in
-    let rf : RowsFacts g.width 25 (rows_of m) =
-    subst (λ (x : Head). RowsFacts x.width 25 (rows_of m)) (sym left'.head) (subst (λ (x : List Row). RowsFacts s.head.width 25 x) (sym left'.becomes.rows) f.rows) in
-    let t : touched_of old < MASKS = omega (arith, v.touched, ap touched_of copy) in
-    let back = screen_back g (stamp_of old) m n hf rf left'.becomes.size is in
-    record {
-      valid = valid_back g (stamp_of old) m n hf rf left'.becomes.size is t;
-      screen = back ∙ (λ i. record { head = left'.head i; rows = left'.becomes.rows i });
-      head = sym (ap (λ (x : Screen). x.head) back);
-    }
+  facts : HeadFacts g
+  facts = subst HeadFacts (sym left.head) typed.head
 
-pub space_copied : (l old : List ℕ) → Valid l → old ≡ l → Copied l old
-space_copied l old v e = record { size = v.size; copy = sym e; valid = subst Valid (sym e) v }
+  pub space_fits : HeadFits g
+  space_fits = head_fits g facts
 
-pub space_old : (l old : List ℕ) → Valid l → old ≡ l → length old ≡ SIZE
-space_old l old v e = ap length e ∙ v.size
-
-pub space_fits : (l old m : List ℕ) (g : Head) → Valid l → old ≡ l → Leaves (apply (TypeChar 32) (screen_of old)) l m g → HeadFits g
-unfolding in_range own all_pass rule
-space_fits l old m g v e left =
-    let f : ScreenFacts (apply (TypeChar 32) (screen_of old)) = apply_facts (TypeChar 32) (screen_of old) refl (subst Valid (sym e) v).screen in
-    head_fits g (subst HeadFacts (sym left.head) f.head)
-
--- ---- same_cursor
-
-module _ (a b : Cursor) where
-  pub rows_same : a.row ≡ b.row → eqb a.col b.col ≡ same_cursor a b
-  unfolding same_cursor
-  rows_same e = rw (eq-eqb a.row b.row e)
-
-  pub rows_differ : (a.row ≡ b.row → ⊥) → eqb a.row b.row ≡ same_cursor a b
-  unfolding same_cursor
-  rows_differ ne = rw (ne_eqb a.row b.row ne)
+  pub space_typed : (n : List ℕ) (stamp : Stamp) → stamp ≡ stamp_of l → n ≡ front_bytes g stamp ++ drop FLAGS m → SpaceTyped l n g
+  unfolding apply rule stamp_of
+  space_typed n stamp kept is =
+      let rows : RowsFacts g.width 25 (rows_of m) =
+      subst (λ (x : Head). RowsFacts x.width 25 (rows_of m)) (sym left.head) (subst (λ (x : List Row). RowsFacts (apply (TypeChar 32) (screen_of l)).head.width 25 x) (sym left.becomes.rows) typed.rows) in
+      let few : stamp.touched < MASKS = omega (arith, v.touched, ap (λ (x : Stamp). x.touched) kept) in
+      let back = screen_back g stamp m n facts rows left.becomes.size is in
+      record {
+        valid = valid_back g stamp m n facts rows left.becomes.size is few;
+        screen = back ∙ (λ i. record { head = left.head i; rows = left.becomes.rows i });
+        head = sym (ap (λ (x : Screen). x.head) back);
+      }
 
 -- ---- type_spaces: from the record l₀, i of n spaces are typed, and what is left to type leads to the answer
 
@@ -118,15 +97,11 @@ pub record Spaced (l₀ : List ℕ) (n : ℕ) (l : List ℕ) (i : ℕ) : Type 0 
   pub valid : Valid l
   pub rest : type_spaces (n - i) (screen_of l) ≡ type_spaces n (screen_of l₀)
 
-pub spaced_start : (l : List ℕ) (n : ℕ) → Valid l → Spaced l n l 0
-spaced_start l n v =
-    let k : n - 0 ≡ n = omega arith in
-    record { valid = v; rest = ap (λ (x : ℕ). type_spaces x (screen_of l)) k }
-
 -- m is the record after one more, t says that the cursor has not moved
 module _ (l₀ l m : List ℕ) (h g : Head) (n i : ℕ) (t : Bool) (more : i < n) (spaced : Spaced l₀ n l i) (known : Known l h) (typed : SpaceTyped l m g)
-    (is : t ≡ same_cursor h.cursor g.cursor) where
+    (is : t ≡ (eqb h.cursor.row g.cursor.row && eqb h.cursor.col g.cursor.col)) where
   same : same_cursor (head_of l).cursor (type_char (screen_of l) 32).head.cursor ≡ t
+  unfolding same_cursor
   same =
       ap₂ (λ (x y : Head). same_cursor x.cursor y.cursor) (sym known.head) (sym (ap (λ (x : Screen). x.head) typed.screen) ∙ sym typed.head)
       ∙ sym is

@@ -1,10 +1,11 @@
--- The typing keys: what each way out of the code leaves is what the rule says. l is the record, old its copy, h its head, m what is left and g
--- the head that is handed back.
+-- The typing keys: what each way out of the code leaves is what the rule says. l is the record, old its copy, line the one under the cursor, m what is left and
+-- g the head that is handed back.
 -- Assumes nothing.
 use Prim.Native.Nat.{ℕ, ◌+◌, ◌-◌, ◌*◌, ◌≤◌, ◌<◌, min}
 use mathlib.Core.Path.{◌≡◌, refl, sym, ap, ◌∙◌, subst}
 use mathlib.Core.Bool.{Bool, true, false, not}
 use mathlib.Core.List.{List, [], ◌∷◌, ◌++◌}
+use mathlib.Core.Logic.{◌≢◌}
 use native.Mathlib.Omega.{arith}
 use native.Mathlib.Decide.{ℕ_discrete}
 use lib.Dec.{leb, ltb, eqb}
@@ -12,225 +13,158 @@ use lib.ListN.{length, take, drop, set}
 use borrow.Author.Tests.{not-true, not-false, lt-ltb, le-ltb, le-leb, lt-leb, eq-eqb, ne_eqb}
 use Rattle.std.specs.Prelude.{if◌then◌else◌}
 use Rattle.octets.proofs.Bools.{pick, skip}
-use Rattle.grid.specs.Screen.{printable, editable}
+use Rattle.grid.specs.Layout.{SIZE}
+use Rattle.grid.specs.Screen.{printable}
 use Rattle.grid.specs.Record.{rows_of, head_of, screen_of, Leaves}
-use Rattle.grid.specs.Facts.{HeadFacts}
 use Rattle.grid.specs.declared.head.Head.{Head}
-use Rattle.line.specs.Line.{MAX-LOGICAL, start_of, end_of, content, index}
+use Rattle.line.specs.Line.{MAX-LOGICAL, start_of, end_of, index}
 use Rattle.line.specs.Splice.{splice, without_rows}
 use Rattle.line.specs.Given.{Known, Begun, SpanIs}
-use Rattle.line.specs.Text.{Sound, Holds, text_of}
+use Rattle.line.specs.Text.{Holds, text_of}
 use Rattle.line.specs.declared.text.Text.{Text}
 use Rattle.line.proofs.TextLaws.{length_text}
 use Rattle.editor.specs.Typing.{type_within, type_limited, type_at, type_char, delete_char, backspace, erase_to_end}
 use Rattle.editor.specs.Lines.{escape_line}
 use Rattle.editor.specs.Call.{TypeChar, TypeLimited, Backspace, DeleteChar, EraseToEnd, EscapeLine, rule, apply}
-use Rattle.editor.specs.Given.{Copied}
+use Rattle.editor.specs.Given.{Copied, Under, without}
+use Rattle.editor.specs.declared.typing.Line.{Line}
 
--- ---- what is known at the start
+-- ---- a call's work begins
 
-module _ (l old : List ℕ) (h : Head) (copied : Copied l old) (is : h ≡ head_of old) where
-  pub known : Known old h
-  known = record { size = copied.valid.size; facts = subst HeadFacts (sym is) copied.valid.screen.head; head = is }
+size : {l old : List ℕ} → Copied l old → length l ≡ SIZE
+size copied = ap length copied.copy ∙ copied.valid.size
 
-  pub begun : Begun l old h
-  begun = record { size = copied.size; copy = copied.copy; known = known }
+pub begun : (l old : List ℕ) (h : Head) → Copied l old → Known old h → Begun l old h
+begun l old h copied known = record { size = size copied; copy = copied.copy; known = known }
 
-  pub cursor_row : h.cursor.row < editable h.keys
-  cursor_row = known.facts.row
+-- nothing is written
+pub still : {l old : List ℕ} {h : Head} → Copied l old → h ≡ head_of old → Leaves (screen_of old) l l h
+still copied is = record { becomes = record { size = size copied; front = refl; rows = ap rows_of copied.copy }; head = is }
 
-  -- nothing is written
-  pub still : Leaves (screen_of old) l l h
-  still = record { becomes = record { size = copied.size; front = refl; rows = ap rows_of copied.copy }; head = is }
+-- ---- without: at is the index, t' the text without the character there
 
--- ---- type_within
+module _ (l old : List ℕ) (line : Line) (at : ℕ) (copied : Copied l old) (under : Under old line) where
+  pub without_none : line.text.len ≤ at → Leaves (without (screen_of old) (text_of line.text) at) l l line.head
+  unfolding without
+  without_none k = rw (le-ltb at (length (text_of line.text)) (omega (arith, length_text line.text))) (still copied under.known.head)
 
-module _ (l old : List ℕ) (h : Head) (ch limit : ℕ) (t : Text) (begin : Begun l old h) (sound : Sound t) where
-  on : h.insert ≡ 1 → eqb (head_of old).insert 1 ≡ true
-  on e = eq-eqb _ _ (ap (λ (x : Head). x.insert) (sym begin.known.head) ∙ e)
+  pub without_one : (m : List ℕ) (g : Head) (t' : Text) → Holds t' (take at (text_of line.text) ++ drop (at + 1) (text_of line.text)) at
+      → Leaves (splice (screen_of old) (text_of t') t'.index) l m g → at < line.text.len → Leaves (without (screen_of old) (text_of line.text) at) l m g
+  unfolding without
+  without_one m g t' new left k =
+      rw (lt-ltb at (length (text_of line.text)) (omega (arith, length_text line.text)), ← new.text, ← new.at) left
 
-  off : (h.insert ≡ 1 → ⊥) → eqb (head_of old).insert 1 ≡ false
-  off ne = ne_eqb _ _ (λ q. ne (ap (λ (x : Head). x.insert) begin.known.head ∙ q))
+-- ---- type_at
 
-  full : limit ≤ t.len → leb limit (length (text_of t)) ≡ true
-  full k = le-leb limit (length (text_of t)) (omega (arith, length_text t sound))
+module _ (l old : List ℕ) (line : Line) (ch limit : ℕ) (copied : Copied l old) (under : Under old line) where
+  on : line.head.insert ≡ 1 → eqb (head_of old).insert 1 ≡ true
+  on e = eq-eqb _ _ (ap (λ (x : Head). x.insert) (sym under.known.head) ∙ e)
 
-  room : t.len < limit → leb limit (length (text_of t)) ≡ false
-  room k = lt-leb limit (length (text_of t)) (omega (arith, length_text t sound))
+  off : line.head.insert ≢ 1 → eqb (head_of old).insert 1 ≡ false
+  off ne = ne_eqb _ _ (λ q. ne (ap (λ (x : Head). x.insert) under.known.head ∙ q))
 
-  inside : t.index < t.len → ltb t.index (length (text_of t)) ≡ true
-  inside k = lt-ltb t.index (length (text_of t)) (omega (arith, length_text t sound))
+  full : limit ≤ line.text.len → leb limit (length (text_of line.text)) ≡ true
+  full k = le-leb limit (length (text_of line.text)) (omega (arith, length_text line.text))
 
-  behind : t.len ≤ t.index → ltb t.index (length (text_of t)) ≡ false
-  behind k = le-ltb t.index (length (text_of t)) (omega (arith, length_text t sound))
+  room : line.text.len < limit → leb limit (length (text_of line.text)) ≡ false
+  room k = lt-leb limit (length (text_of line.text)) (omega (arith, length_text line.text))
 
-  same_screen : Leaves (screen_of old) l l h
-  same_screen = record { becomes = record { size = begin.size; front = refl; rows = ap rows_of begin.copy }; head = begin.known.head }
+  inside : line.text.index < line.text.len → ltb line.text.index (length (text_of line.text)) ≡ true
+  inside k = lt-ltb line.text.index (length (text_of line.text)) (omega (arith, length_text line.text))
 
-  pub insert_full_within : h.insert ≡ 1 → limit ≤ t.len → Leaves (type_within limit (screen_of old) (text_of t) t.index ch) l l h
+  behind : line.text.len ≤ line.text.index → ltb line.text.index (length (text_of line.text)) ≡ false
+  behind k = le-ltb line.text.index (length (text_of line.text)) (omega (arith, length_text line.text))
+
+  pub insert_full : line.head.insert ≡ 1 → limit ≤ line.text.len
+      → Leaves (type_within limit (screen_of old) (text_of line.text) line.text.index ch) l l line.head
   unfolding type_within
-  insert_full_within i k = rw (on i, full k) same_screen
+  insert_full i k = rw (on i, full k) (still copied under.known.head)
 
-  pub extend_full_within : (h.insert ≡ 1 → ⊥) → t.len ≤ t.index → limit ≤ t.len → Leaves (type_within limit (screen_of old) (text_of t) t.index ch) l l h
+  pub extend_full : line.head.insert ≢ 1 → line.text.len ≤ line.text.index → limit ≤ line.text.len
+      → Leaves (type_within limit (screen_of old) (text_of line.text) line.text.index ch) l l line.head
   unfolding type_within
-  extend_full_within i j k = rw (off i, behind j, full k) same_screen
+  extend_full i j k = rw (off i, behind j, full k) (still copied under.known.head)
 
   -- t' is the text with the character, g the head that splice has handed back, and m what it has left
   module _ (t' : Text) (g : Head) (m : List ℕ) (left : Leaves (splice (screen_of old) (text_of t') t'.index) l m g) where
-    pub insert_done_within : Holds t' (take t.index (text_of t) ++ (ch ∷ drop t.index (text_of t))) (t.index + 1) → h.insert ≡ 1 → t.len < limit
-        → Leaves (type_within limit (screen_of old) (text_of t) t.index ch) l m g
+    pub insert_done : Holds t' (take line.text.index (text_of line.text) ++ (ch ∷ drop line.text.index (text_of line.text))) (line.text.index + 1)
+        → line.head.insert ≡ 1 → line.text.len < limit
+        → Leaves (type_within limit (screen_of old) (text_of line.text) line.text.index ch) l m g
     unfolding type_within
-    insert_done_within new i k = rw (on i, room k, ← new.text, ← new.at) left
+    insert_done new i k = rw (on i, room k, ← new.text, ← new.at) left
 
-    pub replace_done_within : Holds t' (set (text_of t) t.index ch) (t.index + 1) → (h.insert ≡ 1 → ⊥) → t.index < t.len
-        → Leaves (type_within limit (screen_of old) (text_of t) t.index ch) l m g
+    pub replace_done : Holds t' (set (text_of line.text) line.text.index ch) (line.text.index + 1) → line.head.insert ≢ 1 → line.text.index < line.text.len
+        → Leaves (type_within limit (screen_of old) (text_of line.text) line.text.index ch) l m g
     unfolding type_within
-    replace_done_within new i k = rw (off i, inside k, ← new.text, ← new.at) left
+    replace_done new i k = rw (off i, inside k, ← new.text, ← new.at) left
 
-    pub extend_done_within : Holds t' (text_of t ++ (ch ∷ [])) (t.index + 1) → (h.insert ≡ 1 → ⊥) → t.len ≤ t.index → t.len < limit
-        → Leaves (type_within limit (screen_of old) (text_of t) t.index ch) l m g
+    pub extend_done : Holds t' (text_of line.text ++ (ch ∷ [])) (line.text.index + 1) → line.head.insert ≢ 1 → line.text.len ≤ line.text.index
+        → line.text.len < limit → Leaves (type_within limit (screen_of old) (text_of line.text) line.text.index ch) l m g
     unfolding type_within
-    extend_done_within new i j k = rw (off i, behind j, room k, ← new.text, ← new.at) left
+    extend_done new i j k = rw (off i, behind j, room k, ← new.text, ← new.at) left
 
--- ---- type_at: it is that with the limit of every line
-
-module _ (l old : List ℕ) (h : Head) (ch : ℕ) (t : Text) (begin : Begun l old h) (sound : Sound t) where
-  pub insert_full : h.insert ≡ 1 → MAX-LOGICAL ≤ t.len → Leaves (type_at (screen_of old) (text_of t) t.index ch) l l h
-  unfolding type_at type_within
-  insert_full = insert_full_within l old h ch MAX-LOGICAL t begin sound
-
-  pub extend_full : (h.insert ≡ 1 → ⊥) → t.len ≤ t.index → MAX-LOGICAL ≤ t.len → Leaves (type_at (screen_of old) (text_of t) t.index ch) l l h
-  unfolding type_at type_within
-  extend_full = extend_full_within l old h ch MAX-LOGICAL t begin sound
-
-  module _ (t' : Text) (g : Head) (m : List ℕ) (left : Leaves (splice (screen_of old) (text_of t') t'.index) l m g) where
-    pub insert_done : Holds t' (take t.index (text_of t) ++ (ch ∷ drop t.index (text_of t))) (t.index + 1) → h.insert ≡ 1 → t.len < MAX-LOGICAL
-        → Leaves (type_at (screen_of old) (text_of t) t.index ch) l m g
-    unfolding type_at type_within
-    insert_done = insert_done_within l old h ch MAX-LOGICAL t begin sound t' g m left
-
-    pub replace_done : Holds t' (set (text_of t) t.index ch) (t.index + 1) → (h.insert ≡ 1 → ⊥) → t.index < t.len
-        → Leaves (type_at (screen_of old) (text_of t) t.index ch) l m g
-    unfolding type_at type_within
-    replace_done = replace_done_within l old h ch MAX-LOGICAL t begin sound t' g m left
-
-    pub extend_done : Holds t' (text_of t ++ (ch ∷ [])) (t.index + 1) → (h.insert ≡ 1 → ⊥) → t.len ≤ t.index → t.len < MAX-LOGICAL
-        → Leaves (type_at (screen_of old) (text_of t) t.index ch) l m g
-    unfolding type_at type_within
-    extend_done = extend_done_within l old h ch MAX-LOGICAL t begin sound t' g m left
-
--- ---- type_limited, type_char: u is what is_printable has answered
+-- ---- type_limited: u is what is_printable has answered
 
 pub limited_ignored : (l old : List ℕ) (h : Head) (ch limit : ℕ) (u : Bool) → Copied l old → h ≡ head_of old → u ≡ printable ch → not u ≡ true
     → Leaves (apply (TypeLimited ch limit) (screen_of old)) l l h
 unfolding apply rule type_limited
-limited_ignored l old h ch limit u copied ih eu nu = rw (sym eu ∙ not-true u nu) (still l old h copied ih)
+limited_ignored l old h ch limit u copied ih eu nu =
+    rw (sym eu ∙ not-true u nu) (still copied ih)
 
--- t is the content
-pub limited_done : (l m old : List ℕ) (g : Head) (ch limit : ℕ) (u : Bool) (t : Text) → u ≡ printable ch → not u ≡ false
-    → Holds t (content (screen_of old)) (index (screen_of old)) → Leaves (type_within limit (screen_of old) (text_of t) t.index ch) l m g
-    → Leaves (apply (TypeLimited ch limit) (screen_of old)) l m g
+pub limited_done : (l m old : List ℕ) (g : Head) (line : Line) (ch limit : ℕ) (u : Bool) → u ≡ printable ch → not u ≡ false → Under old line
+    → Leaves (type_within limit (screen_of old) (text_of line.text) line.text.index ch) l m g → Leaves (apply (TypeLimited ch limit) (screen_of old)) l m g
 unfolding apply rule type_limited
-limited_done l m old g ch limit u t eu nu holds x = rw (sym eu ∙ not-false u nu, ← holds.text, ← holds.at) x
+limited_done l m old g line ch limit u eu nu under x = rw (sym eu ∙ not-false u nu, ← under.text.text, ← under.text.at) x
 
--- ---- type_char: it is that with the limit of every line
-
-pub typed_ignored : (l old : List ℕ) (h : Head) (ch : ℕ) (u : Bool) → Copied l old → h ≡ head_of old → u ≡ printable ch → not u ≡ true
-    → Leaves (apply (TypeChar ch) (screen_of old)) l l h
-unfolding apply rule type_char type_at type_limited type_within
-typed_ignored l old h ch u = limited_ignored l old h ch MAX-LOGICAL u
-
-pub typed_done : (l m old : List ℕ) (g : Head) (ch : ℕ) (u : Bool) (t : Text) → u ≡ printable ch → not u ≡ false
-    → Holds t (content (screen_of old)) (index (screen_of old)) → Leaves (type_at (screen_of old) (text_of t) t.index ch) l m g
+-- type_char: it is that with the limit of every line
+pub typed : (l m old : List ℕ) (g : Head) (ch : ℕ) → Leaves (apply (TypeLimited ch MAX-LOGICAL) (screen_of old)) l m g
     → Leaves (apply (TypeChar ch) (screen_of old)) l m g
-unfolding apply rule type_char type_at type_limited type_within
-typed_done l m old g ch u t = limited_done l m old g ch MAX-LOGICAL u t
+unfolding apply rule type_char type_at type_limited
+typed l m old g ch x = x
 
--- ---- delete_char, backspace: t is the content, t' what is spliced in
+-- ---- delete_char, backspace, erase_to_end
 
-pub before_edge : (col i : ℕ) → 0 < col → i - 1 ≡ (if eqb col 0 then i else i - 1)
-before_edge col i k = sym (skip _ _ _ (ne_eqb col 0 (λ q. omega arith)))
+module _ (l m old : List ℕ) (line : Line) (g : Head) (under : Under old line) where
+  pub deleted : Leaves (without (screen_of old) (text_of line.text) line.text.index) l m g → Leaves (apply DeleteChar (screen_of old)) l m g
+  unfolding apply rule delete_char without
+  deleted left = rw (← under.text.text, ← under.text.at) left
 
-pub at_edge : (col i : ℕ) → col ≤ 0 → i ≡ (if eqb col 0 then i else i - 1)
-at_edge col i k = sym (pick _ _ _ (eq-eqb col 0 (omega arith)))
+  pub erased : (t' : Text) → Leaves (splice (screen_of old) (text_of t') t'.index) l m g → Holds t' (take line.text.index (text_of line.text)) line.text.index
+      → Leaves (apply EraseToEnd (screen_of old)) l m g
+  unfolding apply rule erase_to_end
+  erased t' left new = rw (← under.text.text, ← under.text.at, ← new.text, ← new.at) left
 
--- at the left edge backspace is delete
-back_deleted : (l m old : List ℕ) (h g : Head) → h ≡ head_of old → h.cursor.col ≡ 0 → Leaves (apply DeleteChar (screen_of old)) l m g
+-- behind the left edge the cursor stands behind a character
+module _ (old : List ℕ) (line : Line) (under : Under old line) (right : 0 < line.head.cursor.col) where
+  pub index_low : 1 ≤ line.text.index
+  unfolding index
+  index_low =
+      let w : ℕ = ((head_of old).cursor.row - start_of (screen_of old) (head_of old).cursor.row) * (head_of old).width in
+      let k : 1 ≤ (head_of old).cursor.col = subst (λ (x : Head). 1 ≤ x.cursor.col) under.known.head right in
+      let e : line.text.index ≡ min MAX-LOGICAL (w + (head_of old).cursor.col) = under.text.at in
+      omega arith
+
+-- at is what `backspace_index` has answered
+pub backspaced : (l m old : List ℕ) (line : Line) (g : Head) (at : ℕ) → Copied l old → Under old line
+    → at ≡ (if eqb line.head.cursor.col 0 then line.text.index else line.text.index - 1) → Leaves (without (screen_of old) (text_of line.text) at) l m g
     → Leaves (apply Backspace (screen_of old)) l m g
-unfolding apply rule backspace
-back_deleted l m old h g ih c left = rw (eq-eqb (head_of old).cursor.col 0 (ap (λ (x : Head). x.cursor.col) (sym ih) ∙ c)) left
+unfolding apply rule backspace delete_char without
+backspaced l m old line g at copied under is left = rw (← under.text.text, ← under.text.at) (go (ℕ_discrete line.head.cursor.col 0))
+  where
+    same : line.head.cursor.col ≡ (head_of old).cursor.col
+    same = ap (λ (x : Head). x.cursor.col) under.known.head
 
-module _ (l old : List ℕ) (h : Head) (t : Text) (holds : Holds t (content (screen_of old)) (index (screen_of old))) where
-  count : length (content (screen_of old)) ≡ t.len
-  count = ap length (sym holds.text) ∙ length_text t holds.sound
-
-  pub deleted_none : Copied l old → h ≡ head_of old → t.len ≤ t.index → Leaves (apply DeleteChar (screen_of old)) l l h
-  unfolding apply rule delete_char
-  deleted_none copied ih k =
-      rw (le-ltb (index (screen_of old)) (length (content (screen_of old))) (omega (arith, count, holds.at))) (still l old h copied ih)
-
-  module _ (m : List ℕ) (g : Head) (t' : Text) (left : Leaves (splice (screen_of old) (text_of t') t'.index) l m g) where
-    pub deleted : Holds t' (take t.index (text_of t) ++ drop (t.index + 1) (text_of t)) t.index → t.index < t.len
-        → Leaves (apply DeleteChar (screen_of old)) l m g
-    unfolding apply rule delete_char
-    deleted new k =
-        rw (lt-ltb (index (screen_of old)) (length (content (screen_of old))) (omega (arith, count, holds.at)))
-        (rw (← holds.text, ← holds.at, ← new.text, ← new.at) left)
-
-    pub erased : Holds t' (take t.index (text_of t)) t.index → Leaves (apply EraseToEnd (screen_of old)) l m g
-    unfolding apply rule erase_to_end
-    erased new = rw (← holds.text, ← holds.at, ← new.text, ← new.at) left
-
-  module _ (ih : h ≡ head_of old) (right : 0 < h.cursor.col) where
-    -- the cursor stands behind a character
-    pub index_low : 1 ≤ t.index
-    unfolding index
-    index_low =
-        let w : ℕ = ((head_of old).cursor.row - start_of (screen_of old) (head_of old).cursor.row) * (head_of old).width in
-        let k : 1 ≤ (head_of old).cursor.col = subst (λ (x : Head). 1 ≤ x.cursor.col) ih (omega arith) in
-        let e : t.index ≡ min MAX-LOGICAL (w + (head_of old).cursor.col) = holds.at in
-        omega arith
-
-    index_before : t.index - 1 < t.len
-    index_before = omega (arith, index_low, holds.sound.within)
-
-    backspaced : (m : List ℕ) (g : Head) (t' : Text) → Leaves (splice (screen_of old) (text_of t') t'.index) l m g
-        → Holds t' (take (t.index - 1) (text_of t) ++ drop (t.index - 1 + 1) (text_of t)) (t.index - 1) → Leaves (apply Backspace (screen_of old)) l m g
-    unfolding apply rule backspace
-    backspaced m g t' left new =
-        let k : t.index - 1 + 1 ≡ t.index = omega (arith, index_low) in
-        let k₀ : 0 < (head_of old).cursor.col = subst (λ (x : Head). 0 < x.cursor.col) ih right in
-        let c : eqb (head_of old).cursor.col 0 ≡ false = ne_eqb (head_of old).cursor.col 0 (λ q. omega arith) in
-        let text = new.text in
-        let e : text_of t' ≡ take (t.index - 1) (text_of t) ++ drop t.index (text_of t) = rw k at text in
-        rw c (rw (← holds.text, ← holds.at, ← e, ← new.at) left)
-
-  -- k is what `backspace_index` has answered
-  module _ (ih : h ≡ head_of old) (k : ℕ) (at : k ≡ (if eqb h.cursor.col 0 then t.index else t.index - 1)) where
-    edge : h.cursor.col ≡ 0 → k ≡ t.index
-    edge q = at ∙ pick _ _ _ (eq-eqb _ _ q)
-
-    off_edge : (h.cursor.col ≡ 0 → ⊥) → k ≡ t.index - 1
-    off_edge ne = at ∙ skip _ _ _ (ne_eqb _ _ ne)
-
-    pub back_none : Copied l old → t.len ≤ k → Leaves (apply Backspace (screen_of old)) l l h
-    back_none copied q = go (ℕ_discrete h.cursor.col 0)
-      where
-        go : Dec (h.cursor.col ≡ 0) → Leaves (apply Backspace (screen_of old)) l l h
-        go (yes e) = back_deleted l l old h h ih e (deleted_none copied ih (omega (arith, edge e)))
-        go (no ne) = absurd (omega (arith, index_before ih (omega arith), off_edge ne))
-
-    pub back_done : (m : List ℕ) (g : Head) (t' : Text) → Leaves (splice (screen_of old) (text_of t') t'.index) l m g
-        → Holds t' (take k (text_of t) ++ drop (k + 1) (text_of t)) k → k < t.len → Leaves (apply Backspace (screen_of old)) l m g
-    back_done m g t' left new q = go (ℕ_discrete h.cursor.col 0)
-      where
-        go : Dec (h.cursor.col ≡ 0) → Leaves (apply Backspace (screen_of old)) l m g
-        go (yes e) =
-            let d : Holds t' (take t.index (text_of t) ++ drop (t.index + 1) (text_of t)) t.index = subst (λ (i : ℕ). Holds t' (take i (text_of t) ++ drop (i + 1) (text_of t)) i) (edge e) new in
-            back_deleted l m old h g ih e (deleted m g t' left d (omega (arith, edge e)))
-        go (no ne) =
-            let d : Holds t' (take (t.index - 1) (text_of t) ++ drop (t.index - 1 + 1) (text_of t)) (t.index - 1) = subst (λ (i : ℕ). Holds t' (take i (text_of t) ++ drop (i + 1) (text_of t)) i) (off_edge ne) new in
-            backspaced ih (omega arith) m g t' left d
+    go : Dec (line.head.cursor.col ≡ 0) → Leaves (if eqb (head_of old).cursor.col 0 then (if ltb line.text.index (length (text_of line.text)) then splice (screen_of old) (take line.text.index (text_of line.text) ++ drop (line.text.index + 1) (text_of line.text)) line.text.index else screen_of old) else splice (screen_of old) (take (line.text.index - 1) (text_of line.text) ++ drop line.text.index (text_of line.text)) (line.text.index - 1)) l m g
+    go (yes e) =
+        let here : at ≡ line.text.index = is ∙ pick _ _ _ (eq-eqb line.head.cursor.col 0 e) in
+        rw (eq-eqb (head_of old).cursor.col 0 (sym same ∙ e)) (rw here at left)
+    go (no ne) =
+        let low : 1 ≤ line.text.index = index_low old line under (omega arith) in
+        let before : at ≡ line.text.index - 1 = is ∙ skip _ _ _ (ne_eqb line.head.cursor.col 0 ne) in
+        let next : line.text.index - 1 + 1 ≡ line.text.index = omega arith in
+        let some : line.text.index - 1 < length (text_of line.text) = omega (arith, length_text line.text, line.text.within) in
+        let took : Leaves (without (screen_of old) (text_of line.text) (line.text.index - 1)) l m g = rw before at left in
+        rw (ne_eqb (head_of old).cursor.col 0 (λ e. ne (same ∙ e))) (rw (lt-ltb (line.text.index - 1) (length (text_of line.text)) some, next) at took)
 
 -- ---- escape_line
 

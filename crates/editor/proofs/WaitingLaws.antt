@@ -2,26 +2,25 @@
 -- Assumes nothing.
 use Prim.Native.Nat.{ℕ, ◌+◌, ◌-◌, ◌≤◌, ◌<◌, min}
 use mathlib.Core.Path.{◌≡◌, refl, sym, ap, ◌∙◌}
-use mathlib.Core.Bool.{Bool, true, false, not}
+use mathlib.Core.Bool.{Bool, true, false}
 use mathlib.Core.List.{List}
-use mathlib.Core.Logic.{◌≢◌}
 use native.Mathlib.Omega.{arith}
 use lib.Dec.{eqb}
-use mir.Syntax.{w64}
-use mir.Val.{Fits}
 use lib.ListN.{length, get_or, take, drop, length-drop}
 use lib.Seq.{length-take-le, drop-cons}
-use borrow.Author.Tests.{not-true, not-false, lt-ltb, le-ltb, ne_eqb}
+use borrow.Author.Tests.{lt-ltb, le-ltb}
 use Rattle.std.specs.Prelude.{if◌then◌else◌}
 use Rattle.octets.proofs.Bools.{pick, skip}
-use Rattle.grid.specs.Screen.{Screen, with_rows, editable, printable}
+use Rattle.grid.specs.Screen.{Screen, with_rows, editable}
 use Rattle.grid.specs.Record.{rows_of, head_of, screen_of}
 use Rattle.grid.specs.Facts.{Valid}
 use Rattle.grid.specs.declared.head.Head.{Head}
 use Rattle.editor.specs.Print.{Advanced, next_row, newline, write_cell, put_char, print_byte, print}
 use Rattle.editor.specs.Waiting.{scrolls_of, taken}
 use Rattle.editor.specs.declared.print.Went.{Went}
-use Rattle.editor.specs.Given.{Advances, NextScrolls, Reaches, Waits}
+use Rattle.editor.specs.declared.print.Effect.{Effect}
+use Rattle.editor.specs.declared.print.Effect.TheVariants.{Newline, Char, Nothing}
+use Rattle.editor.specs.Given.{Advances, Effects, NextScrolls, Reaches, Waits, effected}
 use Rattle.editor.specs.Call.{rule, apply}
 use Rattle.editor.proofs.PrintParts.{print_next}
 use Rattle.editor.proofs.PrintLaws.{wraps, Printing, piece_start, piece_on}
@@ -58,28 +57,28 @@ module _ (l : List ℕ) (h : Head) (t : Bool) (is : t ≡ wraps l h) where
   unfolding newline
   newline_goes k next e = scrolls_else _ _ _ (sym is ∙ e) (next.made (rows_of l))
 
--- ---- byte_scrolls: t is what is_printable has answered
+-- ---- byte_scrolls: e is what effect_of has answered, and k the answer of what the code calls then
 
-module _ (l : List ℕ) (h : Head) (cr t : Bool) (b : ℕ) (not13 : b ≢ 13) (not10 : b ≢ 10) (is : t ≡ printable b) where
+module _ (l : List ℕ) (h : Head) where
   abbrev this : Screen
   this = record { head = h; rows = rows_of l }
 
-  pub byte_ignores : not t ≡ true → 0 ≡ (print_byte cr this b).scrolls
-  unfolding print_byte
-  byte_ignores e = scrolls_else _ _ _ (ne_eqb b 13 not13) (scrolls_else _ _ _ (ne_eqb b 10 not10) (scrolls_else _ _ _ (sym is ∙ not-true t e) refl))
+  module _ (cr : Bool) (b : ℕ) (e : Effect) (effect : Effects cr b e) where
+    pub line_scrolls : (k : ℕ) → e ≡ Newline → k ≡ (newline this).scrolls → k ≡ (print_byte cr this b).scrolls
+    unfolding effected
+    line_scrolls k is p = rw (effect.does this, is) p
 
-  module _ (e : not t ≡ false) where
-    put_scrolls : (k : ℕ) → k ≡ (put_char this b).scrolls → k ≡ (print_byte cr this b).scrolls
-    unfolding print_byte
-    put_scrolls k q = scrolls_else _ _ _ (ne_eqb b 13 not13) (scrolls_else _ _ _ (ne_eqb b 10 not10) (scrolls_then _ _ _ (sym is ∙ not-false t e) q))
+    pub char_scrolls : (k : ℕ) → e ≡ Char → h.width ≤ h.cursor.col + 1 → NextScrolls h k → k ≡ (print_byte cr this b).scrolls
+    unfolding effected put_char write_cell with_rows
+    char_scrolls k is le next = rw (effect.does this, is) (scrolls_else _ _ _ (le-ltb (h.cursor.col + 1) h.width le) (next.made _))
 
-    pub byte_inside : h.cursor.col + 1 < h.width → 0 ≡ (print_byte cr this b).scrolls
-    unfolding put_char
-    byte_inside lt = put_scrolls 0 (scrolls_then _ _ _ (lt-ltb (h.cursor.col + 1) h.width lt) refl)
+    pub char_inside : e ≡ Char → h.cursor.col + 1 < h.width → 0 ≡ (print_byte cr this b).scrolls
+    unfolding effected put_char
+    char_inside is lt = rw (effect.does this, is) (scrolls_then _ _ _ (lt-ltb (h.cursor.col + 1) h.width lt) refl)
 
-    pub byte_last : (k : ℕ) → NextScrolls h k → h.width ≤ h.cursor.col + 1 → k ≡ (print_byte cr this b).scrolls
-    unfolding put_char write_cell with_rows
-    byte_last k next le = put_scrolls k (scrolls_else _ _ _ (le-ltb (h.cursor.col + 1) h.width le) (next.made _))
+    pub none_scrolls : e ≡ Nothing → 0 ≡ (print_byte cr this b).scrolls
+    unfolding effected
+    none_scrolls is = rw (effect.does this, is)
 
 -- ---- piece_end: k is what byte_scrolls has answered
 
@@ -121,7 +120,7 @@ module _ (bs l m : List ℕ) (rows i n : ℕ) (cr : Bool) (h : Head) (p : Printi
   abbrev this_far : Screen
   this_far = record { head = h; rows = rows_of m }
 
-  waits : (i < length bs → rows < scrolls_of (screen_of l) (take (i + 1) bs)) → Waits bs rows l m (record { head = h; taken = i; scrolled = n })
+  waits : (i < length bs → rows < scrolls_of (screen_of l) (take (i + 1) bs)) → Waits bs rows l m (record { head = h; taken = i; scrolls = n })
   unfolding apply rule
   waits stop =
       let front : take i bs ≡ taken (screen_of l) rows bs = taken_is (screen_of l) bs rows i p.to (omega (arith, p.count)) stop in
@@ -137,11 +136,11 @@ module _ (bs l m : List ℕ) (rows i n : ℕ) (cr : Bool) (h : Head) (p : Printi
         most = most;
       }
 
-  pub waits_end : length bs ≤ i → Waits bs rows l m (record { head = h; taken = i; scrolled = n })
+  pub waits_end : length bs ≤ i → Waits bs rows l m (record { head = h; taken = i; scrolls = n })
   waits_end le = waits (λ lt. absurd (omega arith))
 
   module _ (to : ℕ) (lt : i < length bs) (reach : Reaches cr this_far bs i (rows - n) to) where
-    pub waits_stop : to ≡ i → Waits bs rows l m (record { head = h; taken = i; scrolled = n })
+    pub waits_stop : to ≡ i → Waits bs rows l m (record { head = h; taken = i; scrolls = n })
     waits_stop e =
         let sum = ap (λ (a : Advanced). a.scrolls) (print_next bs i lt false (screen_of l)) in
         let same : (print_byte cr this_far (get_or bs i 0)).scrolls ≡ _ = λ j. (print_byte (p.last j) (p.done j) (get_or bs i 0)).scrolls in
@@ -151,9 +150,6 @@ module _ (bs l m : List ℕ) (rows i n : ℕ) (cr : Bool) (h : Head) (p : Printi
     module _ (m' : List ℕ) (w : Went) (went : Advances (print cr this_far (take (to - i) (drop i bs))) m m' w) where
       pub more_most : n + w.scrolls ≤ rows
       more_most = omega (arith, reach.few, went.scrolls)
-
-      pub more_fits : rows ≤ 1000 → Fits w64 (n + w.scrolls)
-      more_fits few = record { fits = omega (arith, more_most) }
 
       pub waiting_turn : (to ≡ i → ⊥) → Printing false (screen_of l) bs l m' to (eqb (get_or bs (to - 1) 0) 13) w.head (n + w.scrolls)
       waiting_turn further = piece_on false bs l (head_of l) m i n cr h p to m' w (omega (arith, reach.from)) reach.within went

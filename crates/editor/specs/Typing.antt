@@ -7,20 +7,7 @@ use Rattle.line.specs.Splice.{splice}
 
 -- ---- typing: cs is the editing content, i its index
 
--- insert puts the character at i, else it overwrites at i or extends at n; a full line neither takes one in nor grows
-unfoldable pub type_at : Screen → List ℕ → ℕ → ℕ → Screen
-type_at s cs i ch =
-    let full = leb MAX-LOGICAL (length cs) in
-    if eqb s.head.insert 1 then (if full then s else splice s (take i cs ++ (ch ∷ drop i cs)) (i + 1))
-    else if ltb i (length cs) then splice s (set cs i ch) (i + 1)
-    else if full then s
-    else splice s (cs ++ (ch ∷ [])) (i + 1)
-
-unfoldable pub type_char : Screen → ℕ → Screen
-type_char s ch = if printable ch then type_at s (content s) (index s) ch else s
-
--- ---- typing with a limit, in the place of MAX-LOGICAL
-
+-- insert puts the character at i, else it overwrites at i or extends at n; a content that is as long as the limit neither takes one in nor grows
 unfoldable pub type_within : ℕ → Screen → List ℕ → ℕ → ℕ → Screen
 type_within limit s cs i ch =
     let full = leb limit (length cs) in
@@ -29,8 +16,15 @@ type_within limit s cs i ch =
     else if full then s
     else splice s (cs ++ (ch ∷ [])) (i + 1)
 
+-- the limit of every line
+unfoldable pub type_at : Screen → List ℕ → ℕ → ℕ → Screen
+type_at s cs i ch = type_within MAX-LOGICAL s cs i ch
+
 unfoldable pub type_limited : ℕ → Screen → ℕ → Screen
 type_limited limit s ch = if printable ch then type_within limit s (content s) (index s) ch else s
+
+unfoldable pub type_char : Screen → ℕ → Screen
+type_char s ch = if printable ch then type_at s (content s) (index s) ch else s
 
 unfoldable pub delete_char : Screen → Screen
 delete_char s =

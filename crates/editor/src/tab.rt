@@ -1,63 +1,46 @@
 // Tab: spaces typed while insert is on, else a move.
-ghost use Rattle.std.specs.Prelude.{◌<◌, ◌≡◌, ◌++◌, length, drop};
-ghost use Rattle.grid.specs.Layout.{SIZE, FLAGS};
-ghost use Rattle.grid.specs.Record.{screen_of, stamp_of, front_bytes};
-ghost use Rattle.grid.specs.Facts.{HeadFacts, HeadFits, Valid};
-ghost use Rattle.editor.specs.Tab.{same_cursor, type_spaces, next_stop, tabbed};
+ghost use Rattle.std.specs.Prelude.{◌<◌, ◌≡◌};
+ghost use Rattle.grid.specs.Record.{screen_of};
+ghost use Rattle.grid.specs.Facts.{HeadFacts, Valid};
+ghost use Rattle.editor.specs.Tab.{type_spaces, next_stop, tabbed};
 ghost use Rattle.editor.specs.Call.{Tab, apply};
 ghost use Rattle.editor.specs.Given.{SpaceTyped, Ends};
 
 use crate::typing::type_char;
+use grid::head;
 use grid::head::Head;
-use grid::{head, row};
+use grid::layout::Record;
 use line::head::head_of;
 use values::cursor::Cursor;
 
-fn same_cursor(a: Cursor, b: Cursor) -> bool
-    ensures { result ≡ same_cursor a b }
-{
-    a.row == b.row && a.col == b.col
-}
-
-// Writes the head g, with the stamp of old.
-fn put_head(rec: &mut [u8], old: &[u8], g: Head)
-    requires { (length rec.old ≡ SIZE) × (length old.now ≡ SIZE) × HeadFits g }
-    ensures { rec.new ≡ front_bytes g (stamp_of old.now) ++ drop FLAGS rec.old }
-{
-    let stamp = head::read_stamp(old);
-    head::write_front(rec, g, stamp);
-}
-
 // One space typed, after which the record is valid again: its head goes into it, with the stamp that it had.
-fn type_space(rec: &mut [u8]) -> Head
+fn type_space(rec: &mut Record) -> Head
     requires { Valid rec.old }
     ensures { SpaceTyped rec.old rec.new result }
 {
-    let old = row::copy_of(rec);
+    let old = *rec;
     let g = type_char(rec, &old, b' ');
-    put_head(rec, &old, g);
+    head::write_front(rec, g, head::read_stamp(&old));
     g
 }
 
 // n spaces, until one leaves the cursor still.
-fn type_spaces(rec: &mut [u8], n: usize) -> Head
+#[tactic(auto, using(crate::proofs::TabLaws::spaced_still, crate::proofs::TabLaws::spaced_turn, crate::proofs::TabLaws::spaced_end))]
+fn type_spaces(rec: &mut Record, n: usize) -> Head
     requires { Valid rec.old }
     ensures { Ends (type_spaces n (screen_of rec.old)) rec.new result }
 {
-    let mut i = 0;
-    while i < n {
+    for _ in 0..n {
         let h = head_of(rec);
         let g = type_space(rec);
-        let before = h.cursor;
-        let after = g.cursor;
-        if same_cursor(before, after) {
+        if h.cursor == g.cursor {
             return g;
         }
-        i += 1;
     }
     head_of(rec)
 }
 
+#[tactic(auto, using(crate::proofs::TabLaws::after_stop, crate::proofs::TabLaws::next_stop_is))]
 fn next_stop(c: usize) -> usize
     requires { c < 80 }
     ensures { (result ≡ next_stop c) × (c < result) }
@@ -66,6 +49,7 @@ fn next_stop(c: usize) -> usize
 }
 
 // Where tab goes with insert off.
+#[tactic(auto, using(crate::proofs::TabLaws::tab_column, crate::proofs::TabLaws::tab_nowhere, crate::proofs::TabLaws::tab_row))]
 fn tab_cursor(h: Head) -> Cursor
     requires { HeadFacts h }
     ensures { result ≡ tabbed h }
@@ -81,7 +65,7 @@ fn tab_cursor(h: Head) -> Cursor
     h.cursor
 }
 
-pub fn tab(rec: &mut [u8]) -> Head
+pub fn tab(rec: &mut Record) -> Head
     requires { Valid rec.old }
     ensures { Ends (apply Tab (screen_of rec.old)) rec.new result }
 {

@@ -1,17 +1,12 @@
--- `editor::lines::on_blank_end` meets its contract.
+-- `editor::lines::on_blank_end` meets its contract. What `&&` has left untried is false.
+use borrow.Author.Tests.{le-ltb}
 use Rattle.std.proofs.Common.{rules}
-use Rattle.editor.proofs.LinesLaws.{span_short, not_blank}
-use Rattle.editor.proofs.LinesLaws.{blank_here, blank_elsewhere}
+use Rattle.editor.proofs.LinesLaws.{span_short, not_blank, blank_there}
 use Rattle.editor.proofs.lines.on_blank_end.Goals as goal
+use Rattle.editor.proofs.lines.on_blank_end.Goals.{then-span-end, else-span-end}
 
-pub returns-then-span-end : goal.returns-then-span-end
-returns-then-span-end c = search (rules, span_short)
+pub returns-then-row_is_blank : goal.returns-then-row_is_blank
+returns-then-row_is_blank c = elim c.if-span-end.branch [ then-span-end w ↦ search (rules, blank_there) | else-span-end w ↦ (cc (le-ltb c.args.span.start c.args.span.end w.if-span-end.false)) ]
 
-pub returns-then-not-row_is_blank : goal.returns-then-not-row_is_blank
-returns-then-not-row_is_blank c = search (rules, not_blank)
-
-pub returns-then-h-end : goal.returns-then-h-end
-returns-then-h-end c = search (rules, blank_here)
-
-pub returns-else-h-end : goal.returns-else-h-end
-returns-else-h-end c = search (rules, blank_elsewhere)
+pub returns-else-row_is_blank : goal.returns-else-row_is_blank
+returns-else-row_is_blank c = elim c.if-span-end.branch [ then-span-end w ↦ search (rules, not_blank) | else-span-end w ↦ search (rules, span_short) ]

@@ -1,20 +1,14 @@
 -- `editor::lines::take_logical_line` meets its contract.
 use Rattle.std.proofs.Common.{rules}
-use Rattle.editor.proofs.LinesLaws.{end_below, end_low, take_cleared}
-use Rattle.editor.proofs.LinesLaws.{begins_row, take_next}
+use Rattle.editor.proofs.LinesLaws.{end_low, take_cleared}
+use Rattle.editor.proofs.LinesLaws.{take_next}
 use Rattle.editor.proofs.lines.take_logical_line.Goals as goal
 
 pub overflow_sub-end : goal.overflow_sub-end
 overflow_sub-end c = search (rules, end_low)
 
-pub set_flag-requires : goal.set_flag-requires
-set_flag-requires c = (search rules, search (rules, end_below))
-
 pub returns-then-on_blank_end : goal.returns-then-on_blank_end
 returns-then-on_blank_end c = search (rules, take_cleared)
-
-pub next_row-w-requires : goal.next_row-w-requires
-next_row-w-requires c = (search rules, search (rules, begins_row))
 
 pub returns : goal.returns
 returns c = search (rules, take_next)

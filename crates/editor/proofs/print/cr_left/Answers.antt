@@ -1,13 +1,10 @@
 -- `editor::print::cr_left` meets its contract.
 use Rattle.std.proofs.Common.{rules}
-use Rattle.editor.proofs.CrLaws.{cr_stays, cr_set, cr_cleared}
+use Rattle.editor.proofs.CrLaws.{byte_decides, bit_stays}
 use Rattle.editor.proofs.print.cr_left.Goals as goal
 
-pub returns-then-n-eq0 : goal.returns-then-n-eq0
-returns-then-n-eq0 c = search (rules, cr_stays)
+pub returns-in-Some : goal.returns-in-Some
+returns-in-Some c = let is = c.in-Some.ensures.value in search (rules, byte_decides, is)
 
-pub returns-then-bytes-n-eq13 : goal.returns-then-bytes-n-eq13
-returns-then-bytes-n-eq13 c = search (rules, cr_set)
-
-pub returns-else-bytes-n-eq13 : goal.returns-else-bytes-n-eq13
-returns-else-bytes-n-eq13 c = search (rules, cr_cleared)
+pub returns-in-None : goal.returns-in-None
+returns-in-None c = let is = c.in-None.ensures.value in search (rules, bit_stays, is)

@@ -1,6 +1,6 @@
 -- `editor::print::newline` meets its contract.
 use Rattle.std.proofs.Common.{rules}
-use Rattle.editor.proofs.PrintLaws.{row_above, newline_next, newline_back}
+use Rattle.editor.proofs.PrintLaws.{newline_next, row_above, newline_back}
 use Rattle.editor.proofs.print.newline.Goals as goal
 
 pub returns-then-not-wrapped : goal.returns-then-not-wrapped

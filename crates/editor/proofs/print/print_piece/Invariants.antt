@@ -1,5 +1,4 @@
 -- The loops of `editor::print::print_piece`.
-use Prim.Native.Nat.{◌-◌}
 use lib.ListN.{length}
 use mir.Syntax.{w64}
 use mir.Val.{Fits}
@@ -7,8 +6,5 @@ use Rattle.editor.proofs.PrintLaws.{Printing}
 use Rattle.grid.specs.Record.{rows_of}
 use Rattle.editor.proofs.print.print_piece.Given as goal
 
-abbrev pub invariant-loop-i : goal.invariant-loop-i
-invariant-loop-i l = Printing l.before (record { head = l.initial.h; rows = rows_of l.initial.rec }) l.bytes l.initial.rec l.rec l.i l.cr l.h l.scrolls × Fits w64 (length l.bytes)
-
-abbrev pub decreases-loop-i : goal.decreases-loop-i
-decreases-loop-i l = length l.bytes - l.i
+abbrev pub invariant-loop-b : goal.invariant-loop-b
+invariant-loop-b l = Printing l.before (record { head = l.initial.h; rows = rows_of l.initial.rec }) l.bytes l.initial.rec l.rec l.b-index l.cr l.h l.scrolls × Fits w64 (length l.bytes)

@@ -1,16 +1,19 @@
--- `editor::print::wrapped` meets its contract.
+-- `editor::print::wrapped` meets its contract. What `&&` has left untried is false.
 use Rattle.std.proofs.Common.{rules}
 use Rattle.editor.proofs.PrintLaws.{wraps_col, wraps_row, wraps_flag, wraps_blank}
 use Rattle.editor.proofs.print.wrapped.Goals as goal
+use Rattle.editor.proofs.print.wrapped.Goals.{then-h-eq0, else-h-eq0, then-r-gt0, else-r-gt0}
 
-pub returns-then-h-ne0 : goal.returns-then-h-ne0
-returns-then-h-ne0 c = search (rules, wraps_col)
+pub returns-then-flag_at-eq1 : goal.returns-then-flag_at-eq1
+returns-then-flag_at-eq1 c =
+    elim c.if-r-gt0.branch [
+      | then-r-gt0 w ↦ search (rules, wraps_blank)
+      | else-r-gt0 w ↦ (cc)
+    ]
 
-pub returns-then-r-eq0 : goal.returns-then-r-eq0
-returns-then-r-eq0 c = search (rules, wraps_row)
-
-pub returns-then-flag_at-ne1 : goal.returns-then-flag_at-ne1
-returns-then-flag_at-ne1 c = search (rules, wraps_flag)
-
-pub returns : goal.returns
-returns c = search (rules, wraps_blank)
+pub returns-else-flag_at-eq1 : goal.returns-else-flag_at-eq1
+returns-else-flag_at-eq1 c =
+    elim c.if-r-gt0.branch [
+      | then-r-gt0 w ↦ search (rules, wraps_flag)
+      | else-r-gt0 w ↦ elim c.if-h-eq0.branch [ then-h-eq0 v ↦ search (rules, wraps_row) | else-h-eq0 v ↦ search (rules, wraps_col) ]
+    ]

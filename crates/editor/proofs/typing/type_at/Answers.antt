@@ -1,14 +1,19 @@
--- `editor::typing::type_at` meets its contract. Where the line is full the attribute has the laws: an edit of how full it may be gives those goals other names.
-use Rattle.std.proofs.Common.{◌<◌, arith, rules}
-use Rattle.line.specs.Line.{MAX-LOGICAL}
-use Rattle.editor.proofs.TypingLaws.{insert_done, replace_done, extend_done}
+-- `editor::typing::type_at` meets its contract.
+use Rattle.std.proofs.Common.{rules}
+use Rattle.editor.proofs.TypingLaws.{insert_done, insert_full, replace_done, extend_full, extend_done}
 use Rattle.editor.proofs.typing.type_at.Goals as goal
 
-pub returns-then-h-eq1 : goal.returns-then-h-eq1
-returns-then-h-eq1 c = let short : c.args.t.len < MAX-LOGICAL = omega arith in search (rules, insert_done, short)
+pub returns-then-t-limit : goal.returns-then-t-limit
+returns-then-t-limit c = search (rules, insert_done)
 
-pub returns-then-t : goal.returns-then-t
-returns-then-t c = search (rules, replace_done)
+pub returns-then-line-eq1 : goal.returns-then-line-eq1
+returns-then-line-eq1 c = search (rules, insert_full)
+
+pub returns-then-over : goal.returns-then-over
+returns-then-over c = search (rules, replace_done)
+
+pub returns-then-t-limit-2 : goal.returns-then-t-limit-2
+returns-then-t-limit-2 c = search (rules, extend_full)
 
 pub returns : goal.returns
 returns c = search (rules, extend_done)

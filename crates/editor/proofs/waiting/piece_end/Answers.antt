@@ -6,8 +6,8 @@ use Rattle.editor.proofs.waiting.piece_end.Goals as goal
 pub returns-then-left-gt0 : goal.returns-then-left-gt0
 returns-then-left-gt0 c = search (rules, reaches_far)
 
-pub returns-then-k-gt0 : goal.returns-then-k-gt0
-returns-then-k-gt0 c = search (rules, reaches_none)
+pub returns-then-byte_scrolls-gt0 : goal.returns-then-byte_scrolls-gt0
+returns-then-byte_scrolls-gt0 c = search (rules, reaches_none)
 
-pub returns : goal.returns
-returns c = search (rules, reaches_one)
+pub returns-else-byte_scrolls-gt0 : goal.returns-else-byte_scrolls-gt0
+returns-else-byte_scrolls-gt0 c = search (rules, reaches_one)

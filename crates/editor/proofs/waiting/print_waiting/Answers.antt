@@ -1,6 +1,6 @@
 -- `editor::waiting::print_waiting` meets its contract.
 use Rattle.std.proofs.Common.{rules}
-use Rattle.editor.proofs.WaitingLaws.{waiting_start, waits_end, waits_stop, more_most, more_fits, waiting_turn}
+use Rattle.editor.proofs.WaitingLaws.{waiting_start, waits_end, waits_stop, more_most, waiting_turn}
 use Rattle.editor.proofs.waiting.print_waiting.Goals as goal
 
 pub loop-i-init : goal.loop-i-init
@@ -8,9 +8,6 @@ loop-i-init c = search (rules, waiting_start)
 
 pub returns-then-to-i : goal.returns-then-to-i
 returns-then-to-i c = search (rules, waits_stop)
-
-pub overflow_add-scrolled : goal.overflow_add-scrolled
-overflow_add-scrolled c = search (rules, more_fits)
 
 pub loop-i-preserved : goal.loop-i-preserved
 loop-i-preserved c = (search (rules, waiting_turn), search (rules, more_most), search rules)
