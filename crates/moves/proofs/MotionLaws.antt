@@ -6,15 +6,14 @@ use mathlib.Core.List.{List}
 use native.Mathlib.Omega.{arith}
 use lib.ListN.{length}
 use Rattle.grid.specs.Screen.{with_cursor, move_to, editable}
-use Rattle.values.specs.Cursor.{at, home, left, right, up, down, clamp}
+use Rattle.values.specs.Cursor.{at}
 use Rattle.grid.specs.Record.{rows_of, head_of, screen_of, Moves}
 use Rattle.values.specs.declared.cursor.Cursor.{Cursor}
 use Rattle.grid.specs.declared.head.Head.{Head}
-use Rattle.grid.proofs.Validity.{editable_from}
 use Rattle.line.specs.Given.{Known, SpanIs}
 use Rattle.editor.proofs.LinesLaws.{start₀, line_read}
-use Rattle.editor.specs.Call.{MoveLeft, MoveRight, MoveUp, MoveDown, Home, SetCursor, rule, apply, EndOfLine}
-use Rattle.line.specs.declared.reading.Reading.{Reading}
+use Rattle.editor.specs.Call.{rule, apply, EndOfLine}
+use Rattle.line.specs.declared.text.Reading.{Reading}
 use Rattle.line.specs.Text.{Reads}
 use Rattle.line.specs.Line.{reading, line_text}
 use mir.Val.{Fits}
@@ -23,45 +22,15 @@ use mir.Syntax.{w64}
 use native.Mathlib.Nat.{div-le_self}
 use borrow.Author.Tests.{lt-ltb, le-ltb}
 
--- `head_of`
--- there is an editable row
-pub some_row : (k e : ℕ) → e ≡ editable k → 0 < e
-some_row k e is = omega (arith, editable_from k)
-
 module _ (l : List ℕ) (h : Head) (p : Known l h) where
   -- THE LAW of a move: f is where the cursor goes, by the head
   pub goes : (f : Head → Cursor) (c : Cursor) (g : Head) → c ≡ f h → g ≡ with_cursor h c → Moves (move_to (screen_of l) (f (head_of l))) l g
   unfolding move_to
   goes f c g ec eg = record { rows = refl; head = eg ∙ ap (with_cursor h) ec ∙ ap (λ (x : Head). with_cursor x (f x)) p.head }
 
-  -- ---- `move_left`, `move_right`, `move_up`, `move_down`, `home`, `set_cursor`
-
-  module _ (c : Cursor) (g : Head) where
-    pub moved_left : c ≡ left h.width h.cursor → g ≡ with_cursor h c → Moves (apply MoveLeft (screen_of l)) l g
-    unfolding apply rule
-    moved_left = goes (λ (x : Head). left x.width x.cursor) c g
-
-    pub moved_right : (e : ℕ) → e ≡ editable h.keys → c ≡ right h.width e h.cursor → g ≡ with_cursor h c
-        → Moves (apply MoveRight (screen_of l)) l g
-    unfolding apply rule
-    moved_right e ie ic = goes (λ (x : Head). right x.width (editable x.keys) x.cursor) c g (rw ie at ic)
-
-    pub moved_up : c ≡ up h.cursor → g ≡ with_cursor h c → Moves (apply MoveUp (screen_of l)) l g
-    unfolding apply rule
-    moved_up = goes (λ (x : Head). up x.cursor) c g
-
-    pub moved_down : (e : ℕ) → e ≡ editable h.keys → c ≡ down e h.cursor → g ≡ with_cursor h c → Moves (apply MoveDown (screen_of l)) l g
-    unfolding apply rule
-    moved_down e ie ic = goes (λ (x : Head). down (editable x.keys) x.cursor) c g (rw ie at ic)
-
-    pub moved_home : c ≡ at 0 0 → g ≡ with_cursor h c → Moves (apply Home (screen_of l)) l g
-    unfolding apply rule
-    moved_home = goes (λ (x : Head). home) c g
-
-    pub cursor_set : (row col e : ℕ) (a : Cursor) → a ≡ at row col → e ≡ editable h.keys → c ≡ clamp h.width e a → g ≡ with_cursor h c
-        → Moves (apply (SetCursor row col) (screen_of l)) l g
-    unfolding apply rule
-    cursor_set row col e a ia ie ic = goes (λ (x : Head). clamp x.width (editable x.keys) (at row col)) c g (rw (ia, ie) at ic)
+  -- `moved`
+  pub moved_to : (c : Cursor) (g : Head) → g ≡ with_cursor h c → Moves (move_to (screen_of l) g.cursor) l g
+  moved_to c g e = goes (λ (x : Head). g.cursor) g.cursor g refl (e ∙ ap (λ (x : Head). with_cursor h x.cursor) (sym e))
 
 -- ---- `end_of_line`: start to end is the span of the cursor's row, t its reading
 
@@ -77,7 +46,7 @@ module _ (l : List ℕ) (h : Head) (known : Known l h) (start end : ℕ) (span :
   pub end_row_fits : Fits w64 (start + t.len / h.width)
   end_row_fits =
       let a : t.len / h.width ≤ t.len = div-le_self t.len h.width in
-      record { fits = omega (arith, reads.fits, span.from, known.facts.row, known.facts.edit_to) }
+      record { fits = omega (arith, t.fits, span.from, known.facts.row, known.facts.edit_to) }
 
   pub end_inside : (g : Head) (c : Cursor) (e : ℕ) → e ≡ editable h.keys → start + t.len / h.width < e
       → c ≡ at (start + t.len / h.width) (t.len % h.width) → g ≡ with_cursor h c → Moves (apply EndOfLine (screen_of l)) l g

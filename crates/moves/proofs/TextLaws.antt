@@ -2,15 +2,15 @@
 -- Assumes nothing.
 use Prim.Native.Nat.{ℕ, zero, suc, ◌+◌, ◌-◌, ◌*◌, ◌≤◌, ◌<◌}
 use mathlib.Core.Path.{◌≡◌, refl, sym, ap, ◌∙◌}
-use mathlib.Core.Bool.{Bool, true, false, not, ◌&&◌, true≢false}
+use mathlib.Core.Bool.{Bool, true, false, ◌&&◌, true≢false}
 use mathlib.Core.List.{List, [], ◌∷◌, ◌++◌, append_assoc}
 use native.Mathlib.Numerals.{add-one}
 use native.Mathlib.Omega.{arith}
 use lib.Dec.{eqb}
 use lib.ListN.{length, get_or, take, set, length-append, length-set}
 use lib.Seq.{take-suc, length-take-le, take-take}
-use borrow.Author.Tests.{not-true, not-false, eq-eqb, ne_eqb}
-use Rattle.std.specs.Prelude.{if◌then◌else◌}
+use borrow.Author.Tests.{eq-eqb, ne_eqb}
+use Rattle.std.specs.Prelude.{if◌then◌else◌, Option, None, Some, IfSome, MatchOption}
 use Rattle.grid.specs.Layout.{SIZE}
 use Rattle.grid.specs.Screen.{Row, row_at, no_row, editable, is_empty, trim_by}
 use Rattle.octets.specs.Part.{write}
@@ -24,7 +24,7 @@ use Rattle.grid.proofs.RowLaws.{length_rows, full_row}
 use Rattle.line.specs.Given.{Known}
 use Rattle.editor.specs.Text.{is_white, row_texts, join_lines, snapshot}
 use Rattle.moves.specs.Shown.{shown, filled_rows, lines, Shows, Filled, Puts}
-use Rattle.moves.proofs.WordsLaws.{row_known}
+use Rattle.moves.proofs.WordsLaws.{row_known, Index, index}
 
 empty_append : (xs ys : List ℕ) → is_empty ys ≡ false → is_empty (xs ++ ys) ≡ false
 unfolding is_empty
@@ -45,95 +45,68 @@ module _ (p : ℕ → Bool) where
       choose true e = refl
       choose false e = ap (λ (r : List ℕ). x ∷ r) e
 
--- ---- `is_white`
+-- ---- `shown_length`: what is found is the length without the elements at the end that pass
 
-module _ (c : ℕ) where
-  pub white_32 : c ≡ 32 → true ≡ is_white c
-  unfolding is_white
-  white_32 e = sym (rw (eq-eqb c 32 e))
+module _ (p : ℕ → Bool) (cs : List ℕ) where
+  trimmed : (w n : ℕ) → w ≤ length cs → n ≤ w → (0 < n → p (get_or cs (n - 1) 0) ≡ false)
+      → ((k : ℕ) → n ≤ k → k < w → p (get_or cs k 0) ≡ true) → n ≡ length (trim_by p (take w cs))
+  unfolding trim_by
+  trimmed zero n a h stop none = omega arith
+  trimmed (suc w) n a h stop none =
+      let last : take (suc w) cs ≡ take w cs ++ (get_or cs w 0 ∷ []) = take-suc cs w 0 a in
+      let same : suc w - 1 ≡ w = omega arith in
+      let on : n ≤ w → n ≡ length (trim_by p (take w cs)) = λ b. trimmed w n (omega arith) b stop (λ k c d. none k c (omega arith)) in
+      let out : n ≤ w → trim_by p (take (suc w) cs) ≡ trim_by p (take w cs) =
+      λ b. ap (trim_by p) last ∙ trim_out p (take w cs) _ (none w b (omega arith)) in
+      let whole : n ≡ suc w → length (trim_by p (take (suc w) cs)) ≡ suc w =
+      λ e. ap (λ (x : List ℕ). length (trim_by p x)) last ∙ ap length (trim_in p (take w cs) _ (rw (e, same) at (stop (omega (arith, e)))))
+      ∙ ap length (sym last) ∙ length-take-le (suc w) cs a in
+      grind (arith, on, out, whole)
 
-  pub white_133 : (c ≡ 32 → ⊥) → c ≡ 133 → eqb c 133 ≡ is_white c
-  unfolding is_white
-  white_133 n e = rw (ne_eqb c 32 n, eq-eqb c 133 e)
+pub shown_found : (l : List ℕ) (r w n : ℕ) → length l ≡ SIZE → r < 25 → w ≤ 80 → n ≤ w → (0 < n → is_white (get_or (row_of l r).chars (n - 1) 0) ≡ false)
+    → ((k : ℕ) → n ≤ k → k < w → is_white (get_or (row_of l r).chars k 0) ≡ true) → Shows w (row_of l r) n
+unfolding shown
+shown_found l r w n len below wide h stop none =
+    record { is = trimmed is_white (row_of l r).chars w n (omega (arith, (full_row l r len below).chars80)) h stop none; most = h }
 
-  pub white_160 : (c ≡ 32 → ⊥) → (c ≡ 133 → ⊥) → eqb c 160 ≡ is_white c
-  unfolding is_white
-  white_160 n m = rw (ne_eqb c 32 n, ne_eqb c 133 m)
+-- ---- `last_row`
 
--- ---- the loops over columns: b is the last of the first c characters of row r, and t what `is_white` has answered of it
-
-module _ (l : List ℕ) (r w c : ℕ) (len : length l ≡ SIZE) (below : r < 25) (wide : w ≤ 80) where
-  cs : List ℕ
-  cs = (row_of l r).chars
-
-  module _ (b : ℕ) (t : Bool) (low : 0 < c) (high : c ≤ w) (ib : b ≡ get_or (row_of l r).chars (c - 1) 0) (it : t ≡ is_white b) where
-    last : take c cs ≡ take (c - 1) cs ++ (b ∷ [])
-    unfolding cs
-    last =
-        let e : c ≡ suc (c - 1) = omega arith in
-        let n = (full_row l r len below).chars80 in
-        ap (λ (k : ℕ). take k (row_of l r).chars) e ∙ take-suc (row_of l r).chars (c - 1) 0 (omega arith)
-        ∙ ap (λ (x : ℕ). take (c - 1) (row_of l r).chars ++ (x ∷ [])) (sym ib)
-
-    pub white_turn : not t ≡ false → shown c (row_of l r) ≡ shown w (row_of l r) → shown (c - 1) (row_of l r) ≡ shown w (row_of l r)
-    unfolding shown cs
-    white_turn e q = sym (ap (trim_by is_white) last ∙ trim_out is_white (take (c - 1) cs) b (sym it ∙ not-false t e)) ∙ q
-
-    -- all of them are shown
-    whole : not t ≡ true → shown c (row_of l r) ≡ take (c - 1) cs ++ (b ∷ [])
-    unfolding shown cs
-    whole e = ap (trim_by is_white) last ∙ trim_in is_white (take (c - 1) cs) b (sym it ∙ not-true t e)
-
-    pub shown_stop : not t ≡ true → shown c (row_of l r) ≡ shown w (row_of l r) → Shows w (row_of l r) c
-    unfolding cs
-    shown_stop e q =
-        let n = (full_row l r len below).chars80 in
-        record { is = sym (ap length (sym q ∙ whole e ∙ sym last) ∙ length-take-le c (row_of l r).chars (omega arith)); most = high }
-
-    filled : not t ≡ true → shown c (row_of l r) ≡ shown w (row_of l r) → is_empty (shown w (row_of l r)) ≡ false
-    unfolding is_empty
-    filled e q = ap is_empty (sym q ∙ whole e) ∙ empty_append (take (c - 1) cs) (b ∷ []) refl
-
-  none : c ≤ 0 → shown c (row_of l r) ≡ shown w (row_of l r) → shown w (row_of l r) ≡ []
-  unfolding shown trim_by
-  none h q =
-      let z : c ≡ 0 = omega arith in
-      sym (rw z at q)
-
-  pub shown_end : c ≤ 0 → shown c (row_of l r) ≡ shown w (row_of l r) → Shows w (row_of l r) 0
-  shown_end h q = record { is = sym (ap length (none h q)); most = omega arith }
-
--- ---- the search for the last filled cell: r rows are left, and c columns of the last of them
+length_empty : (xs : List ℕ) → is_empty xs ≡ eqb (length xs) 0
+unfolding is_empty
+length_empty [] = refl
+length_empty (x ∷ xs) = sym (ne_eqb (suc (length xs)) 0 (λ e. omega (arith, e)))
 
 module _ (w : ℕ) (rows : List Row) where
-  filled_one : (r : ℕ) → 0 < r → filled_rows w rows r ≡ (if is_empty (shown w (row_at rows (r - 1))) then filled_rows w rows (r - 1) else r)
+  filled_at : (e n : ℕ) → n ≤ e → (0 < n → is_empty (shown w (row_at rows (n - 1))) ≡ false)
+      → ((k : ℕ) → n ≤ k → k < e → is_empty (shown w (row_at rows k)) ≡ true) → n ≡ filled_rows w rows e
   unfolding filled_rows
-  filled_one r h =
-      let e : r ≡ suc (r - 1) = omega arith in
-      ap (filled_rows w rows) e ∙ ap (λ (n : ℕ). if is_empty (shown w (row_at rows (r - 1))) then filled_rows w rows (r - 1) else n) (sym e)
+  filled_at zero n h stop none = omega arith
+  filled_at (suc e) n h stop none =
+      let same : suc e - 1 ≡ e = omega arith in
+      let on : n ≤ e → n ≡ filled_rows w rows e = λ b. filled_at e n b stop (λ k x c. none k x (omega arith)) in
+      let no : n ≤ e → is_empty (shown w (row_at rows e)) ≡ true = λ b. none e b (omega arith) in
+      let yes : n ≡ suc e → is_empty (shown w (row_at rows e)) ≡ false = λ q. rw (q, same) at (stop (omega (arith, q))) in
+      grind (arith, on, no, yes)
 
-module _ (l : List ℕ) (e w r : ℕ) where
-  pub filled_end : r ≤ 0 → filled_rows w (rows_of l) r ≡ filled_rows w (rows_of l) e → Filled w (rows_of l) e r
-  unfolding filled_rows
-  filled_end h q =
-      let z : r ≡ 0 = omega arith in
-      record { is = z ∙ (rw z at q); most = omega arith }
+module _ (l : List ℕ) (e w : ℕ) (below : e ≤ 25) where
+  empty_is_short : (k : ℕ) → k < e → is_empty (shown w (row_at (rows_of l) k)) ≡ eqb (length (shown w (row_of l k))) 0
+  empty_is_short k h = ap (λ (x : Row). is_empty (shown w x)) (row_known l k (omega arith)) ∙ length_empty _
 
-  module _ (c : ℕ) (len : length l ≡ SIZE) (below : r - 1 < 25) (wide : w ≤ 80) (low : 0 < r)
-      (q : filled_rows w (rows_of l) r ≡ filled_rows w (rows_of l) e) (qs : shown c (row_of l (r - 1)) ≡ shown w (row_of l (r - 1))) where
-    pub filled_turn : c ≤ 0 → filled_rows w (rows_of l) (r - 1) ≡ filled_rows w (rows_of l) e
-    unfolding is_empty
-    filled_turn h =
-        let x : is_empty (shown w (row_at (rows_of l) (r - 1))) ≡ true =
-        ap (λ (y : Row). is_empty (shown w y)) (row_known l (r - 1) below) ∙ ap is_empty (none l (r - 1) w c len below wide h qs) in
-        sym (filled_one w (rows_of l) r low ∙ pick _ _ _ x) ∙ q
-
-    pub filled_found : (b : ℕ) (t : Bool) → 0 < c → c ≤ w → b ≡ get_or (row_of l (r - 1)).chars (c - 1) 0 → t ≡ is_white b → not t ≡ true → r ≤ e
-        → Filled w (rows_of l) e r
-    filled_found b t h k ib it n m =
-        let x : is_empty (shown w (row_at (rows_of l) (r - 1))) ≡ false =
-        ap (λ (y : Row). is_empty (shown w y)) (row_known l (r - 1) below) ∙ filled l (r - 1) w c len below wide b t h k ib it n qs in
-        record { is = sym (filled_one w (rows_of l) r low ∙ skip _ _ _ x) ∙ q; most = m }
+  pub last_found : (r : Option ℕ) → IfSome r (λ i. i < e) → IfSome r (λ i. 0 < length (shown w (row_of l i)))
+      → ((k : ℕ) → Index k → IfSome r (λ i. i < k) → k < e → length (shown w (row_of l k)) ≡ 0)
+      → MatchOption r (Filled w (rows_of l) e 0) (λ i. Filled w (rows_of l) e (i + 1))
+  last_found None h stop none =
+      record {
+        is = filled_at w (rows_of l) e 0 (omega arith) (λ z. absurd (omega (arith, z))) (λ k a b. empty_is_short k b ∙ eq-eqb _ _ (none k (index k) tt b));
+        most = omega arith;
+      }
+  last_found (Some i) h stop none =
+      let same : i + 1 - 1 ≡ i = omega arith in
+      record {
+        is = filled_at w (rows_of l) e (i + 1) (omega arith) (λ z. rw same (empty_is_short i h ∙ ne_eqb _ _ (λ q. omega (arith, stop, q))))
+            (λ k a b. empty_is_short k b ∙ eq-eqb _ _ (none k (index k) (omega arith) b));
+        most = omega arith;
+      }
 
 -- ---- `put_row`, `put_line`, `put_lines`
 
@@ -243,34 +216,32 @@ joined w rows (suc n) h =
     ∙ joined w rows n (omega arith))
     (λ z. join_filled w (take n rows) t z)
 
-module _ (l : List ℕ) (h : Head) (e n : ℕ) (out : List ℕ) (p : Known l h) (ie : e ≡ editable h.keys) (f : Filled h.width (rows_of l) e n) where
-  text_is : snapshot (screen_of l) ≡ printed h.width (rows_of l) n
+module _ (l : List ℕ) (h : Head) (e : ℕ) (out : List ℕ) (p : Known l h) (ie : e ≡ editable h.keys) where
+  text_is : (n : ℕ) → Filled h.width (rows_of l) e n → snapshot (screen_of l) ≡ printed h.width (rows_of l) n
   unfolding snapshot
-  text_is =
+  text_is n f =
       let k : e ≤ length (rows_of l) = omega (arith, length_rows l) in
       ap (λ (x : Head). join_lines (row_texts x.width (take (editable x.keys) (rows_of l)))) (sym p.head)
       ∙ ap (λ (i : ℕ). join_lines (row_texts h.width (take i (rows_of l)))) (sym ie)
       ∙ joined h.width (rows_of l) e k ∙ ap (printed h.width (rows_of l)) (sym f.is)
 
-  pub shot_none : n ≡ 0 → Writes (wrote (snapshot (screen_of l)) out) 0 out
+  pub shot_none : Filled h.width (rows_of l) e 0 → Writes (wrote (snapshot (screen_of l)) out) 0 out
   unfolding wrote
-  shot_none z =
-      let t : snapshot (screen_of l) ≡ [] = text_is ∙ ap (printed h.width (rows_of l)) z in
-      rw t (record { number = refl; left = refl })
+  shot_none f = rw (text_is 0 f) (record { number = refl; left = refl })
 
-  pub shot_done : (m m' : List ℕ) (at k : ℕ) → 2024 ≤ length out → (n ≡ 0 → ⊥)
-      → Puts (lines h.width (take (n - 1) (rows_of l))) (81 * (n - 1)) 0 out m at → Puts (shown h.width (row_of l (n - 1))) 80 at m m' k
+  pub shot_done : (m m' : List ℕ) (r at k : ℕ) → 2024 ≤ length out → Filled h.width (rows_of l) e (r + 1)
+      → Puts (lines h.width (take r (rows_of l))) (81 * r) 0 out m at → Puts (shown h.width (row_of l r)) 80 at m m' k
       → Writes (wrote (snapshot (screen_of l)) out) k m'
   unfolding wrote
-  shot_done m m' at k room ne a b =
+  shot_done m m' r at k room f a b =
       let w : ℕ = h.width in
-      let s : List ℕ = lines w (take (n - 1) (rows_of l)) in
-      let t : List ℕ = shown w (row_of l (n - 1)) in
-      let i : n ≡ suc (n - 1) = omega arith in
+      let s : List ℕ = lines w (take r (rows_of l)) in
+      let t : List ℕ = shown w (row_of l r) in
       let x : snapshot (screen_of l) ≡ s ++ t =
-      text_is ∙ ap (printed w (rows_of l)) i ∙ ap (λ (y : Row). s ++ shown w y) (row_known l (n - 1) (omega (arith, p.facts.edit_to))) in
+      text_is (r + 1) f ∙ ap (printed w (rows_of l)) (add-one r)
+      ∙ ap (λ (y : Row). s ++ shown w y) (row_known l r (omega (arith, p.facts.edit_to, f.most))) in
       let j : k ≡ length (s ++ t) = omega (arith, length-append s t) in
       let o : m' ≡ write out 0 (s ++ t) =
       b.bytes ∙ ap (λ (y : List ℕ). write y at t) a.bytes ∙ ap (λ (y : ℕ). write (write out 0 s) y t) a.next ∙ write_append out 0 s t in
-      let le : length (s ++ t) ≤ length out = omega (arith, p.facts.edit_to) in
+      let le : length (s ++ t) ≤ length out = omega (arith, p.facts.edit_to, f.most) in
       rw x (record { number = j; left = o ∙ write_front out (s ++ t) le })

@@ -1,5 +1,5 @@
 // Words: `word_left` and `word_right` go over all editable cells, which are counted row by row, as in the Rust.
-ghost use Rattle.std.specs.Prelude.{◌≡◌, ◌&&◌, ◌-◌, ◌*◌, ◌≤◌, ◌<◌, leb};
+ghost use Rattle.std.specs.Prelude.{◌≡◌, ◌-◌, ◌*◌, ◌≤◌, ◌<◌};
 ghost use Rattle.grid.specs.Screen.{with_cursor};
 ghost use Rattle.grid.specs.Record.{screen_of, Moves};
 ghost use Rattle.grid.specs.Facts.{HeadFacts, Valid};
@@ -9,30 +9,21 @@ ghost use Rattle.editor.specs.Words.{is_word, word_at, place, back_to_word, word
 ghost use Rattle.editor.specs.Call.{WordLeft, WordRight, apply};
 
 use grid::head::Head;
+use grid::layout::Record;
 use grid::{head, row};
 use line::head::head_of;
 use values::cursor::Cursor;
 
-fn between(c: u8, lo: u8, hi: u8) -> bool
-    ensures { result ≡ leb lo c && leb c hi }
-{
-    lo <= c && c <= hi
-}
-
 // The screen's own test, and not that of the tokens.
+#[tactic(auto, using(crate::proofs::WordsLaws::word_is))]
 fn is_word(c: u8) -> bool
     ensures { result ≡ is_word c }
 {
-    if between(c, b'A', b'Z') {
-        return true;
-    }
-    if between(c, b'a', b'z') {
-        return true;
-    }
-    between(c, b'0', b'9')
+    c.is_ascii_alphanumeric()
 }
 
 // The cell under the cursor.
+#[tactic(auto, using(crate::proofs::WordsLaws::rows_most, crate::proofs::WordsLaws::cells_to))]
 fn flat_index(h: Head) -> usize
     requires { HeadFacts h }
     ensures { Flat h result }
@@ -40,6 +31,7 @@ fn flat_index(h: Head) -> usize
     h.cursor.row * h.width + h.cursor.col
 }
 
+#[tactic(auto, using(crate::proofs::WordsLaws::rows_most, crate::proofs::WordsLaws::cells_to))]
 fn cells(h: Head) -> usize
     requires { HeadFacts h }
     ensures { Cells h result }
@@ -48,84 +40,58 @@ fn cells(h: Head) -> usize
 }
 
 // The head h with the cursor at the cell i.
+#[tactic(auto, unfolding(editor::specs::Words::place))]
 fn set_flat(h: Head, i: usize) -> Head
     requires { HeadFacts h }
     ensures { result ≡ with_cursor h (place h.width i) }
 {
-    let w = h.width;
-    h.with_cursor(Cursor::new(i / w, i % w))
+    h.with_cursor(Cursor::new(i / h.width, i % h.width))
 }
 
 // Is the cell i of a word?
-fn word_at(rec: &[u8], h: Head, i: usize) -> bool
+fn word_at(rec: &Record, h: Head, i: usize) -> bool
     requires { Known rec.now h × (i < 25 * h.width) }
     ensures { result ≡ word_at (screen_of rec.now) i }
 {
-    let w = h.width;
-    is_word(row::char_at(rec, i / w, i % w))
+    is_word(row::char_at(rec, i / h.width, i % h.width))
 }
 
 // Back from the cell at over cells outside words.
-fn back_to_word(rec: &[u8], h: Head, at: usize) -> usize
+fn back_to_word(rec: &Record, h: Head, at: usize) -> usize
     requires { Known rec.now h × (at < 25 * h.width) }
     ensures { result ≡ back_to_word (screen_of rec.now) at }
 {
-    let mut i = at;
-    while 0 < i {
-        if word_at(rec, h, i) {
-            return i;
-        }
-        i -= 1;
-    }
-    0
+    (1..=at).rev().find(|&i| word_at(rec, h, i)).unwrap_or(0)
 }
 
 // Back from the cell at to that word's start.
-fn word_start(rec: &[u8], h: Head, at: usize) -> usize
+fn word_start(rec: &Record, h: Head, at: usize) -> usize
     requires { Known rec.now h × (at < 25 * h.width) }
     ensures { result ≡ word_start (screen_of rec.now) at }
 {
-    let mut i = at;
-    while 0 < i {
-        if !word_at(rec, h, i - 1) {
-            return i;
-        }
-        i -= 1;
-    }
-    0
+    (0..at)
+        .rev()
+        .find(|&i| !word_at(rec, h, i))
+        .map_or(0, |i| i + 1)
 }
 
 // From the cell at past the word it is in, of max cells.
-fn past_word(rec: &[u8], h: Head, max: usize, at: usize) -> usize
+fn past_word(rec: &Record, h: Head, max: usize, at: usize) -> usize
     requires { Known rec.now h × (at ≤ max) × (max ≤ 25 * h.width) }
     ensures { result ≡ past_word (screen_of rec.now) (max - at) at }
 {
-    let mut i = at;
-    while i < max {
-        if !word_at(rec, h, i) {
-            return i;
-        }
-        i += 1;
-    }
-    i
+    (at..max).find(|&i| !word_at(rec, h, i)).unwrap_or(max)
 }
 
 // From the cell at past cells outside words, of max cells.
-fn past_gap(rec: &[u8], h: Head, max: usize, at: usize) -> usize
+fn past_gap(rec: &Record, h: Head, max: usize, at: usize) -> usize
     requires { Known rec.now h × (at ≤ max) × (max ≤ 25 * h.width) }
     ensures { result ≡ past_gap (screen_of rec.now) (max - at) at }
 {
-    let mut i = at;
-    while i < max {
-        if word_at(rec, h, i) {
-            return i;
-        }
-        i += 1;
-    }
-    i
+    (at..max).find(|&i| word_at(rec, h, i)).unwrap_or(max)
 }
 
-pub fn word_left(rec: &[u8]) -> Head
+pub fn word_left(rec: &Record) -> Head
     requires { Valid rec.now }
     ensures { Moves (apply WordLeft (screen_of rec.now)) rec.now result }
 {
@@ -138,7 +104,7 @@ pub fn word_left(rec: &[u8]) -> Head
     set_flat(h, word_start(rec, h, j))
 }
 
-pub fn word_right(rec: &[u8]) -> Head
+pub fn word_right(rec: &Record) -> Head
     requires { Valid rec.now }
     ensures { Moves (apply WordRight (screen_of rec.now)) rec.now result }
 {
@@ -146,8 +112,5 @@ pub fn word_right(rec: &[u8]) -> Head
     let max = cells(h);
     let i = past_word(rec, h, max, flat_index(h));
     let j = past_gap(rec, h, max, i);
-    if j < max {
-        return set_flat(h, j);
-    }
-    set_flat(h, max - 1)
+    set_flat(h, j.min(max - 1))
 }

@@ -1,19 +1,15 @@
 -- `queries::text::logical_text` meets its contract.
 use Rattle.std.proofs.Common.{rules}
-use Rattle.grid.proofs.RefusalLaws.{valid_known}
 use Rattle.queries.proofs.TextLaws.{text_refused, line_written, output_long}
 use Rattle.editor.specs.Outcome.{room}
 use Rattle.queries.proofs.text.logical_text.Goals as goal
 
-pub returns-then-n-ne0 : goal.returns-then-n-ne0
+pub returns-in_err-rec : goal.returns-in_err-rec
 unfolding room
-returns-then-n-ne0 c = search (rules, text_refused)
-
-pub line_text-t-requires : goal.line_text-t-requires
-line_text-t-requires c = search (rules, valid_known)
+returns-in_err-rec c = search (rules, text_refused)
 
 pub put_reading-requires : goal.put_reading-requires
-put_reading-requires c = (search rules, search rules, search (rules, output_long))
+put_reading-requires c = search (rules, output_long)
 
 pub returns : goal.returns
-returns c = search (rules, line_written)
+returns c = line_written _ _ _ c.in_ok-rec.ensures.same _ _ _ c.in_ok-rec.ensures.refusal c.line_text.ensures c.put_reading.ensures

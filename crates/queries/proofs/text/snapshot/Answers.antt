@@ -1,19 +1,18 @@
 -- `queries::text::snapshot` meets its contract.
 use Rattle.std.proofs.Common.{rules}
-use Rattle.grid.proofs.RefusalLaws.{valid_known}
-use Rattle.queries.proofs.TextLaws.{text_refused, snapshot_written, output_long, snapshot_small}
+use Rattle.queries.proofs.TextLaws.{text_refused, output_long, snapshot_small, snapshot_written}
 use Rattle.editor.specs.Outcome.{room}
 use Rattle.queries.proofs.text.snapshot.Goals as goal
 
-pub returns-then-n-ne0 : goal.returns-then-n-ne0
+pub returns-in_err-rec : goal.returns-in_err-rec
 unfolding room
-returns-then-n-ne0 c = search (rules, text_refused)
+returns-in_err-rec c = search (rules, text_refused)
 
 pub snapshot-requires : goal.snapshot-requires
-snapshot-requires c = (search (rules, valid_known), search (rules, output_long))
+snapshot-requires c = search (rules, output_long)
 
 pub overflow_cast-result : goal.overflow_cast-result
-overflow_cast-result c = search (rules, snapshot_small, valid_known)
+overflow_cast-result c = snapshot_small _ _ _ _ c.in_ok-rec.ensures.valid c.snapshot.ensures
 
 pub returns : goal.returns
-returns c = search (rules, snapshot_written)
+returns c = snapshot_written _ _ _ c.in_ok-rec.ensures.same _ _ c.in_ok-rec.ensures.refusal c.snapshot.ensures
