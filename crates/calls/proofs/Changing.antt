@@ -1,117 +1,79 @@
--- A changing call: what is so where it is accepted, and what it answers and leaves. The laws are the same for each call c.
--- k is what `change_refused` has answered, l the lent record, old a copy of it, m what the call's work has left, h the head that it has handed back.
+-- A changing call: what it answers and leaves, refused or accepted. The laws are the same for each call c.
+-- l is the lent record as it was, n as it is left, r what the call's common part has handed back, h the head that its work hands on.
 -- Assumes nothing.
 use Prim.Native.Nat.{ℕ, ◌≤◌}
 use mathlib.Core.Path.{◌≡◌, refl, sym, ap, ap₂, ◌∙◌, subst}
-use mathlib.Core.Bool.{Bool, true}
+use mathlib.Core.Bool.{Bool, true, ◌&&◌}
 use mathlib.Core.List.{List, [], ◌∷◌, ◌++◌}
+use mathlib.Core.Logic.{◌≢◌}
 use native.Mathlib.Omega.{arith}
 use lib.Dec.{leb, eqb}
 use lib.ListN.{length, drop}
-use mir.Syntax.{w8}
-use mir.Val.{Fits}
 use borrow.Author.Tests.{eq-eqb, ne_eqb, leb-true}
-use Rattle.octets.specs.Answer.{over}
+use Rattle.std.proofs.Common.{Bor, MutBor}
+use Rattle.std.specs.Fn.{Once}
+use Rattle.std.specs.Prelude.{Result, Ok, Err, OnOk, OnErr}
+use Rattle.octets.specs.Answer.{refused, number_of, found, done, over}
+use Rattle.octets.specs.declared.answer.Refusal.{Refusal}
+use Rattle.octets.specs.Refusals.{first_of, all_pass}
+use Rattle.octets.proofs.Found.{number_some}
 use Rattle.octets.specs.Width.{widthb}
-use Rattle.octets.specs.Refusals.{first_of, all_pass, refused_with, or_else}
 use Rattle.octets.proofs.WidthLaws.{width_cases, width_to}
-use Rattle.octets.proofs.Found.{else_none, refused_none, refusal_some, refusal_number}
-use Rattle.octets.proofs.Bools.{pick, skip}
+use Rattle.octets.proofs.Bools.{and_right, and_both, pick, skip}
 use Rattle.grid.specs.Layout.{SIZE, FLAGS}
 use Rattle.grid.specs.Pair.{next_pair}
-use Rattle.grid.specs.Screen.{with_cr, touched_rows}
-use Rattle.grid.specs.Record.{rows_of, screen_of, pair_of, serial_of, stamp_of, read_state, state_bytes, front_bytes, Leaves, Moves}
+use Rattle.grid.specs.Screen.{Screen, with_cr, touched_rows}
+use Rattle.grid.specs.Record.{rows_of, head_of, screen_of, pair_of, stamp_of, read_state, state_bytes, front_bytes, Leaves, Moves}
 use Rattle.grid.specs.Facts.{HeadFits, Valid}
 use Rattle.grid.specs.declared.head.Head.{Head}
-use Rattle.grid.specs.Refusals.{record_tests}
 use Rattle.grid.proofs.Validity.{head_fits}
 use Rattle.grid.proofs.Record.{left_bytes}
 use Rattle.grid.proofs.TouchedLaws.{touched_none}
-use Rattle.grid.proofs.RefusalLaws.{Taken, taken}
-use Rattle.editor.specs.Call.{Call, PrintBytes, SetWidth, rule, output, lengths, own, in_range, apply, submitted, answer, cr_after, after_call, step}
-use Rattle.editor.specs.Outcome.{serial_tests, change_tests, changing, LAST-SERIAL}
+use Rattle.grid.proofs.RefusalLaws.{range_tested}
+use Rattle.editor.specs.Call.{Call, PrintBytes, rule, last_cr, lengths, own, in_range, apply, output, submitted, answer, cr_after, after_call, step, limited_ok}
+use Rattle.editor.specs.Outcome.{change_tests, changing}
+use Rattle.line.specs.Line.{MAX-LOGICAL}
 use Rattle.editor.specs.Given.{Copied, Ends}
-use Rattle.editor.proofs.KeptCall.{apply_facts}
+use Rattle.editor.proofs.KeptCall.{apply_facts, limit_most}
 use Rattle.editor.proofs.Refusals.{going}
 use Rattle.calls.specs.Answers.{Answers}
-use Rattle.calls.specs.Parts.{late_answer, change_answer, changed_from}
-use Rattle.calls.proofs.RefusalLaws.{tests_answer, tested_own}
+use Rattle.calls.specs.Parts.{change_found, changed_from, moved_from, Worked}
+use Rattle.calls.proofs.RefusalLaws.{tests_found}
 
--- ---- what is so of an accepted call: long and o are what `change_refused` was given
+-- the head that a call's work hands on, on a valid record and with arguments in range
+pub kept_fits : (c : Call) (l : List ℕ) (h : Head) → in_range c (screen_of l) ≡ true → Valid l → h ≡ (apply c (screen_of l)).head → HeadFits h
+kept_fits c l h e v is = subst HeadFits (sym is) (head_fits _ (apply_facts c (screen_of l) e v.screen).head)
 
-module _ (long : Bool) (l : List ℕ) (o k : ℕ) (is : k ≡ change_answer long o l) (zero : k ≡ 0) where
-  parts : (refused_with (first_of (record_tests long l)) ≡ 0) × (or_else o (refused_with (first_of (serial_tests l))) ≡ 0)
-  unfolding late_answer change_answer
-  parts = else_none _ _ (sym is ∙ zero)
+-- of the prints that take all bytes
+pub printed_fits : (bs l m : List ℕ) (h : Head) → Valid l → Leaves (apply (PrintBytes bs) (screen_of l)) l m h → HeadFits h
+unfolding in_range own rule all_pass
+printed_fits bs l m h v left = kept_fits (PrintBytes bs) l h refl v left.head
 
-  facts : Taken long l
-  facts = taken long l parts.0
+module _ (c : Call) (l : List ℕ) (o : ℕ) (io : length l ≡ SIZE → o ≡ first_of (own c (screen_of l))) (k : ℕ) (is : k ≡ change_found (lengths c) o l) where
+  first_is : k ≡ first_of (change_tests c l)
+  first_is = is ∙ tests_found c l o io
 
-  pub call_size : length l ≡ SIZE
-  call_size = facts.size
-
-  pub call_valid : Valid l
-  call_valid = facts.valid
-
-  pub call_lengths : long ≡ true
-  call_lengths = facts.lengths_taken
-
-  pub call_serial : serial_of l ≡ LAST-SERIAL → ⊥
-  unfolding serial_tests first_of
-  call_serial q =
-      let none : refused_with (first_of (serial_tests l)) ≡ 0 = (else_none o _ parts.1).1 in
-      let four = refused_none 4 (rw (eq-eqb (serial_of l) LAST-SERIAL q) at none) in
-      omega (arith, four)
-
-  module _ (old : List ℕ) (copy : old ≡ l) where
-    pub copy_size : length old ≡ SIZE
-    copy_size = ap length copy ∙ call_size
-
-    pub copy_valid : Valid old
-    copy_valid = subst Valid (sym copy) call_valid
-
-    pub call_copied : Copied l old
-    call_copied = record { size = call_size; copy = sym copy; valid = copy_valid }
-
-    pub copy_serial : serial_of old ≡ LAST-SERIAL → ⊥
-    copy_serial q = call_serial (ap serial_of (sym copy) ∙ q)
-
--- an argument that is in range
-pub byte_fits : (v : ℕ) → leb v 255 ≡ true → Fits w8 v
-byte_fits v e = record { fits = omega (arith, leb-true v 255 e) }
-
-pub switch_fits : (v : ℕ) → leb v 1 ≡ true → Fits w8 v
-switch_fits v e = record { fits = omega (arith, leb-true v 1 e) }
-
-pub width_small : (w : ℕ) (t : Bool) → t ≡ widthb w → t ≡ true → w ≤ 80
-width_small w t is y = width_to w (width_cases w (sym is ∙ y))
-
--- ---- the call c: o is what its own refusals answer
-
-module _ (c : Call) (l : List ℕ) (o k : ℕ) (io : o ≡ refused_with (first_of (own c (screen_of l)))) (is : k ≡ change_answer (lengths c) o l) where
-  first_is : k ≡ refused_with (first_of (change_tests c l))
-  first_is = is ∙ tests_answer c l o io
-
-  pub outcome_refused : (k ≡ 0 → ⊥) → changing c l ≡ record { number = k; rec = l; out = output c }
+  pub outcome_refused : (e : Refusal) → number_of e ≡ k → changing c l ≡ record { number = refused (number_of e); rec = l; out = output c }
   unfolding changing
-  outcome_refused ne =
+  outcome_refused e ek =
       let first : ℕ = first_of (change_tests c l) in
-      skip (eqb first 0) _ _ (ne_eqb first 0 (refusal_some first k first_is ne))
-      ∙ ap (λ (n : ℕ). record { number = n; rec = l; out = output c }) (sym (refusal_number first k first_is ne))
+      let some : first ≢ 0 = λ q. number_some e (ek ∙ first_is ∙ q) in
+      skip (eqb first 0) _ _ (ne_eqb first 0 some)
+      ∙ ap (λ (n : ℕ). record { number = refused n; rec = l; out = output c }) (sym (ek ∙ first_is))
 
-  none : k ≡ 0 → first_of (change_tests c l) ≡ 0
-  none zero = refused_none _ (sym first_is ∙ zero)
+  none : 0 ≡ k → first_of (change_tests c l) ≡ 0
+  none zero = sym (zero ∙ first_is)
 
-  pub outcome_done : k ≡ 0
+  pub outcome_done : 0 ≡ k
       → changing c l ≡ record { number = answer c (screen_of l); rec = state_bytes (step c (read_state l)); out = over (submitted c (screen_of l)) (output c) }
   unfolding changing
   outcome_done zero = pick (eqb (first_of (change_tests c l)) 0) _ _ (eq-eqb _ 0 (none zero))
 
-  pub call_refused : (k ≡ 0 → ⊥) → Answers (changing c l) k l
-  call_refused ne = rw (outcome_refused ne) (record { number = refl; left = refl })
+  pub call_refused : (e : Refusal) (n : List ℕ) → number_of e ≡ k → n ≡ l → Answers (changing c l) (refused (number_of e)) n
+  call_refused e n ek kept = rw (outcome_refused e ek) (record { number = refl; left = kept })
 
-  module _ (zero : k ≡ 0) where
-    -- the state that the call leaves, from its rows and its head
+  -- an accepted call: the state that it leaves, from its rows and its head
+  module _ (zero : 0 ≡ k) where
     state_left : (h : Head) (m n : List ℕ) (touched : ℕ) → rows_of m ≡ (apply c (screen_of l)).rows → length m ≡ SIZE → h ≡ (apply c (screen_of l)).head
         → touched ≡ touched_rows (rows_of l) (apply c (screen_of l)).rows
         → n ≡ front_bytes (with_cr h (cr_after c (screen_of l))) (record { pair = next_pair (pair_of l); touched = touched }) ++ drop FLAGS m
@@ -121,78 +83,132 @@ module _ (c : Call) (l : List ℕ) (o k : ℕ) (io : o ≡ refused_with (first_o
         left_bytes m n (with_cr h (cr_after c (screen_of l))) (apply c (screen_of l)).rows (record { pair = next_pair (pair_of l); touched = touched }) size rows e
         ∙ ap₂ (λ (g : Head) (u : ℕ). state_bytes (record { screen = record { head = with_cr g (cr_after c (screen_of l)); rows = (apply c (screen_of l)).rows }; stamp = record { pair = next_pair (pair_of l); touched = u } })) head et
 
-    head_kept : (h : Head) → h ≡ (apply c (screen_of l)).head → HeadFits h
-    head_kept h e =
-        let f = going c l (none zero) in
-        subst HeadFits (sym e) (head_fits _ (apply_facts c (screen_of l) f.is_in_range f.start.valid.screen).head)
+    -- a call that changes rows: its work leaves them in m
+    pub rows_state : (h : Head) (m n : List ℕ) → Ends (apply c (screen_of l)) m h → n ≡ changed_from l (with_cr h (cr_after c (screen_of l))) m
+        → n ≡ state_bytes (step c (read_state l))
+    unfolding changed_from
+    rows_state h m n ends e =
+        state_left h m n (touched_rows (rows_of l) (rows_of m)) ends.rows ends.size ends.head (ap (touched_rows (rows_of l)) ends.rows) e
 
-    -- a call that changes rows
-    module _ (old m : List ℕ) (copy : old ≡ l) (h : Head) (left : Leaves (apply c (screen_of l)) l m h) where
-      pub leaves_fits : HeadFits h
-      leaves_fits = head_kept h left.head
-
-      pub leaves_state : (n : List ℕ) → n ≡ changed_from old (with_cr h (cr_after c (screen_of old))) m
-          → n ≡ state_bytes (step c (read_state l))
-      leaves_state n e =
-          state_left h m n (touched_rows (rows_of l) (rows_of m)) left.becomes.rows left.becomes.size left.head
-          (ap (touched_rows (rows_of l)) left.becomes.rows) (rw copy at e)
-
-      pub call_done : (n : List ℕ) (v : ℕ) → v ≡ answer c (screen_of l)
-          → n ≡ changed_from old (with_cr h (cr_after c (screen_of old))) m → Answers (changing c l) v n
-      call_done n v ev e = rw (outcome_done zero) (record { number = ev; left = leaves_state n e })
-
-    -- a call whose work reads the copy
-    module _ (old m : List ℕ) (copy : old ≡ l) (h : Head) (left : Leaves (apply c (screen_of old)) l m h) where
-      here : Leaves (apply c (screen_of l)) l m h
-      here = subst (λ (x : List ℕ). Leaves (apply c (screen_of x)) l m h) copy left
-
-      pub copied_fits : HeadFits h
-      copied_fits = leaves_fits old m copy h here
-
-      pub copied_done : (n : List ℕ) (v : ℕ) → v ≡ answer c (screen_of l)
-          → n ≡ changed_from old (with_cr h (cr_after c (screen_of old))) m → Answers (changing c l) v n
-      copied_done n v ev e = call_done old m copy h here n v ev e
-
-    -- `tab`, which also writes heads on the way
-    module _ (old m : List ℕ) (copy : old ≡ l) (h : Head) (ends : Ends (apply c (screen_of l)) m h) where
-      pub ends_fits : HeadFits h
-      ends_fits = head_kept h ends.head
-
-      pub ends_done : (n : List ℕ) (v : ℕ) → v ≡ answer c (screen_of l)
-          → n ≡ changed_from old (with_cr h (cr_after c (screen_of old))) m → Answers (changing c l) v n
-      ends_done n v ev e =
-          rw (outcome_done zero)
-          (record {
-            number = ev;
-            left =
-                state_left h m n (touched_rows (rows_of l) (rows_of m)) ends.rows ends.size ends.head (ap (touched_rows (rows_of l)) ends.rows)
-                (rw copy at e);
-          })
+    pub rows_done : (h : Head) (m n : List ℕ) (v : ℕ) → v ≡ answer c (screen_of l) → Ends (apply c (screen_of l)) m h
+        → n ≡ changed_from l (with_cr h (cr_after c (screen_of l))) m → Answers (changing c l) v n
+    rows_done h m n v ev ends e = rw (outcome_done zero) (record { number = ev; left = rows_state h m n ends e })
 
     -- a call that moves the cursor or sets a mode
-    module _ (h : Head) (moves : Moves (apply c (screen_of l)) l h) where
-      pub moves_fits : HeadFits h
-      moves_fits = head_kept h moves.head
+    pub head_done : (h : Head) (n : List ℕ) (v : ℕ) → v ≡ answer c (screen_of l) → Moves (apply c (screen_of l)) l h
+        → n ≡ moved_from (with_cr h (cr_after c (screen_of l))) l → Answers (changing c l) v n
+    unfolding moved_from
+    head_done h n v ev moves e =
+        let f = going c l (none zero) in
+        rw (outcome_done zero)
+        (record {
+          number = ev;
+          left =
+              state_left h l n 0 (sym moves.rows) f.start.size moves.head (sym (ap (touched_rows (rows_of l)) moves.rows ∙ touched_none (rows_of l))) e;
+        })
 
-      pub move_done : (n : List ℕ) (v : ℕ) → v ≡ answer c (screen_of l) → n ≡ front_bytes (with_cr h (cr_after c (screen_of l))) (record { pair = next_pair (pair_of l); touched = 0 }) ++ drop FLAGS l
-          → Answers (changing c l) v n
-      move_done n v ev e =
-          let f = going c l (none zero) in
-          rw (outcome_done zero)
-          (record {
-            number = ev;
-            left =
-                state_left h l n 0 (sym moves.rows) f.start.size moves.head
-                (sym (ap (touched_rows (rows_of l)) moves.rows ∙ touched_none (rows_of l))) e;
-          })
+-- ---- a call that has no text and answers 0, and that clears the bit: own' is what its own refusals find
 
--- `set_width`, whose argument a function of its own has tested: t is what that has answered
-pub set_width_fits : (w : ℕ) (t : Bool) (l : List ℕ) (o k : ℕ) → t ≡ widthb w → o ≡ refused_with (first_of ((3, t) ∷ [])) → k ≡ change_answer true o l → k ≡ 0
-    → (m : List ℕ) (h : Head) → Leaves (apply (SetWidth w) (screen_of l)) l m h → HeadFits h
-unfolding lengths own rule
-set_width_fits w t l o k it io is zero m h left = head_kept (SetWidth w) l o k (tested_own (widthb w) t o it io) is zero h left.head
+module _ (c : Call) (l n : List ℕ) (own' r : Result Unit Refusal) (long : lengths c ≡ true) (io : found own' ≡ first_of (own c (screen_of l)))
+    (quiet : answer c (screen_of l) ≡ 0) (clears : cr_after c (screen_of l) ≡ 0) (is : found r ≡ change_found true (found own') l)
+    (kept : OnErr r (n ≡ l)) where
+  pub moved_answers : OnOk r ((h : Head) × ((p : Bor (List ℕ)) × Moves (apply c (screen_of p.now)) p.now h × (p.now ≡ l)) × (n ≡ moved_from (with_cr h 0) l))
+      → Answers (changing c l) (done r) n
+  moved_answers ok = go r is kept ok
+    where
+      go : (r : Result Unit Refusal) → found r ≡ change_found true (found own') l → OnErr r (n ≡ l)
+          → OnOk r ((h : Head) × ((p : Bor (List ℕ)) × Moves (apply c (screen_of p.now)) p.now h × (p.now ≡ l)) × (n ≡ moved_from (with_cr h 0) l))
+          → Answers (changing c l) (done r) n
+      go (Ok x) z k (h, (p, m, at), e) =
+          head_done c l (found own') (λ (q : length l ≡ SIZE). io) 0 (z ∙ ap (λ (b : Bool). change_found b (found own') l) (sym long)) refl h n 0 (sym quiet)
+          (subst (λ (x : List ℕ). Moves (apply c (screen_of x)) x h) at m)
+          (e ∙ ap (λ (v : ℕ). moved_from (with_cr h v) l) (sym clears))
+      go (Err x) z k o =
+          call_refused c l (found own') (λ (q : length l ≡ SIZE). io) (number_of x) (z ∙ ap (λ (b : Bool). change_found b (found own') l) (sym long)) x n refl k
 
--- the checked print, whose work is that of the other print
-pub checked_fits : (bs l m : List ℕ) (h : Head) → Valid l → Leaves (apply (PrintBytes bs) (screen_of l)) l m h → HeadFits h
-unfolding in_range own rule all_pass
-checked_fits bs l m h v left = subst HeadFits (sym left.head) (head_fits _ (apply_facts (PrintBytes bs) (screen_of l) refl v.screen).head)
+  -- the work f leaves what the rule says
+  pub changed_answers : {F : Type 0} (g : Once F (MutBor (List ℕ) × (Bor (List ℕ) × Unit {0})) (Head × (MutBor (List ℕ) × Unit {0}))) (f : F)
+      → ((h : Head) (m : List ℕ) → Worked g f l h m → Ends (apply c (screen_of l)) m h)
+      → OnOk r ((h : Head) × (m : List ℕ) × Worked g f l h m × (n ≡ changed_from l (with_cr h 0) m)) → Answers (changing c l) (done r) n
+  changed_answers g f does ok = go r is kept ok
+    where
+      go : (r : Result Unit Refusal) → found r ≡ change_found true (found own') l → OnErr r (n ≡ l)
+          → OnOk r ((h : Head) × (m : List ℕ) × Worked g f l h m × (n ≡ changed_from l (with_cr h 0) m)) → Answers (changing c l) (done r) n
+      go (Ok x) z k (h, m, w, e) =
+          rows_done c l (found own') (λ (q : length l ≡ SIZE). io) 0 (z ∙ ap (λ (b : Bool). change_found b (found own') l) (sym long)) refl h m n 0 (sym quiet)
+          (does h m w) (e ∙ ap (λ (v : ℕ). changed_from l (with_cr h v) m) (sym clears))
+      go (Err x) z k o =
+          call_refused c l (found own') (λ (q : length l ≡ SIZE). io) (number_of x) (z ∙ ap (λ (b : Bool). change_found b (found own') l) (sym long)) x n refl k
+
+-- ---- the prints that take all bytes, bs; the checked one's own refusal is known of a slice of a record's length alone
+
+module _ (c : Call) (bs l n : List ℕ) (own' r : Result Unit Refusal) (long : lengths c ≡ true)
+    (io : length l ≡ SIZE → found own' ≡ first_of (own c (screen_of l))) (quiet : answer c (screen_of l) ≡ 0)
+    (prints : apply c (screen_of l) ≡ apply (PrintBytes bs) (screen_of l)) (bit : cr_after c (screen_of l) ≡ last_cr (head_of l).cr bs)
+    (is : found r ≡ change_found true (found own') l) (kept : OnErr r (n ≡ l)) where
+  pub printed_answers : OnOk r ((h : Head) × (m : List ℕ) × Leaves (apply (PrintBytes bs) (screen_of l)) l m h
+      × (n ≡ changed_from l (with_cr h (last_cr (head_of l).cr bs)) m)) → Answers (changing c l) (done r) n
+  printed_answers ok = go r is kept ok
+    where
+      go : (r : Result Unit Refusal) → found r ≡ change_found true (found own') l → OnErr r (n ≡ l)
+          → OnOk r ((h : Head) × (m : List ℕ) × Leaves (apply (PrintBytes bs) (screen_of l)) l m h × (n ≡ changed_from l (with_cr h (last_cr (head_of l).cr bs)) m))
+          → Answers (changing c l) (done r) n
+      go (Ok x) z k (h, m, left, e) =
+          rows_done c l (found own') io 0 (z ∙ ap (λ (b : Bool). change_found b (found own') l) (sym long)) refl h m n 0 (sym quiet)
+          (rw prints (record { size = left.becomes.size; rows = left.becomes.rows; head = left.head }))
+          (e ∙ ap (λ (v : ℕ). changed_from l (with_cr h v) m) (sym bit))
+      go (Err x) z k o = call_refused c l (found own') io (number_of x) (z ∙ ap (λ (b : Bool). change_found b (found own') l) (sym long)) x n refl k
+
+-- what a work leaves that was lent k, with a copy, old, of it
+module _ (c : Call) (l m old k n : List ℕ) (h : Head) (lent : k ≡ l) (copy : old ≡ l) (leaves : n ≡ m) where
+  pub worked_ends : Leaves (apply c (screen_of old)) k n h → Ends (apply c (screen_of l)) m h
+  worked_ends left =
+      let s : apply c (screen_of old) ≡ apply c (screen_of l) = ap (λ (x : List ℕ). apply c (screen_of x)) copy in
+      record {
+        size = ap length (sym leaves) ∙ left.becomes.size;
+        rows = ap rows_of (sym leaves) ∙ left.becomes.rows ∙ ap (λ (x : Screen). x.rows) s;
+        head = left.head ∙ ap (λ (x : Screen). x.head) s;
+      }
+
+  pub ended_ends : Ends (apply c (screen_of old)) n h → Ends (apply c (screen_of l)) m h
+  ended_ends ends =
+      let s : apply c (screen_of old) ≡ apply c (screen_of l) = ap (λ (x : List ℕ). apply c (screen_of x)) copy in
+      record {
+        size = ap length (sym leaves) ∙ ends.size;
+        rows = ap rows_of (sym leaves) ∙ ends.rows ∙ ap (λ (x : Screen). x.rows) s;
+        head = ends.head ∙ ap (λ (x : Screen). x.head) s;
+      }
+
+-- the head that such a work hands on
+pub ends_fits : (c : Call) (l m : List ℕ) (h : Head) → in_range c (screen_of l) ≡ true → Valid l → Ends (apply c (screen_of l)) m h → HeadFits h
+ends_fits c l m h e v ends = kept_fits c l h e v ends.head
+
+-- ---- arguments that are in range: o is what the test of them has found
+
+pub tested_range : (ok : Bool) (o : ℕ) → o ≡ 0 → o ≡ first_of ((3, ok) ∷ []) → ok && true ≡ true
+tested_range ok o none is = and_both ok true (range_tested ok (sym none ∙ is)) refl
+
+pub byte_most : (v o : ℕ) → o ≡ first_of ((3, leb v 255) ∷ []) → o ≡ 0 → v ≤ 255
+byte_most v o is none = leb-true v 255 (range_tested (leb v 255) (sym none ∙ is))
+
+pub switch_most : (v o : ℕ) → o ≡ first_of ((3, leb v 1) ∷ []) → o ≡ 0 → v ≤ 255
+switch_most v o is none = let h = leb-true v 1 (range_tested (leb v 1) (sym none ∙ is)) in omega (arith, h)
+
+-- t is what `width_ok` has answered
+pub width_own : (w : ℕ) (t : Bool) (o : ℕ) → t ≡ widthb w → o ≡ first_of ((3, t) ∷ []) → o ≡ first_of ((3, widthb w) ∷ [])
+width_own w t o it is = is ∙ ap (λ (b : Bool). first_of ((3, b) ∷ [])) it
+
+pub width_most : (w : ℕ) (t : Bool) (o : ℕ) → t ≡ widthb w → o ≡ first_of ((3, t) ∷ []) → o ≡ 0 → w ≤ 80
+width_most w t o it is none = width_to w (width_cases w (range_tested (widthb w) (sym none ∙ width_own w t o it is)))
+
+limit_byte : (ch limit : ℕ) → limited_ok ch limit ≡ true → ch ≤ 255
+unfolding limited_ok
+limit_byte ch limit e = leb-true ch 255 (and_right (leb 1 limit && leb limit MAX-LOGICAL) _ e)
+
+pub limited_most : (ch limit o : ℕ) → o ≡ first_of ((3, limited_ok ch limit) ∷ []) → o ≡ 0 → (ch ≤ 255) × (limit ≤ MAX-LOGICAL)
+limited_most ch limit o is none =
+    let e : limited_ok ch limit ≡ true = range_tested (limited_ok ch limit) (sym none ∙ is) in
+    (limit_byte ch limit e, limit_most ch limit e)
+
+pub copied_here : (k old : List ℕ) → Valid old → k ≡ old → Copied k old
+copied_here k old v e = record { copy = e; valid = v }

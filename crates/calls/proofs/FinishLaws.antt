@@ -16,7 +16,7 @@ use Rattle.grid.specs.Record.{rows_of, pair_of, serial_of, front_bytes}
 use Rattle.grid.specs.declared.head.Head.{Head}
 use Rattle.grid.specs.declared.pair.Pair.{Pair}
 use Rattle.editor.specs.Outcome.{LAST-SERIAL}
-use Rattle.calls.specs.Parts.{changed_from}
+use Rattle.calls.specs.Parts.{changed_from, moved_from}
 
 pub next_fits : (l : List ℕ) (p : Pair) → p ≡ pair_of l → (serial_of l ≡ LAST-SERIAL → ⊥) → Fits w32 p.serial → Fits w32 (p.serial + 1)
 next_fits l p e last f =
@@ -30,6 +30,7 @@ next_read l p e = ap next_pair e
 pub finished : (l m n : List ℕ) (h : Head) (p : Pair) (touched : ℕ) → p ≡ next_pair (pair_of l) → touched ≡ touched_rows (rows_of l) (rows_of m)
     → n ≡ front_bytes h (record { pair = p; touched = touched }) ++ drop FLAGS m
     → n ≡ changed_from l h m
+unfolding changed_from
 finished l m n h p touched ep et e = e ∙ ap₂ (λ (x : Pair) (y : ℕ). front_bytes h (record { pair = x; touched = y }) ++ drop FLAGS m) ep et
 
 -- g is the head h with the bit v
@@ -41,5 +42,6 @@ module _ (h g : Head) (v : ℕ) (eg : g ≡ with_cr h v) where
   finished_bit l m n cr ev e = rw (← ev, ← eg) e
 
   pub finished_move : (l n : List ℕ) (p : Pair) → p ≡ next_pair (pair_of l) → n ≡ front_bytes g (record { pair = p; touched = 0 }) ++ drop FLAGS l
-      → n ≡ front_bytes (with_cr h v) (record { pair = next_pair (pair_of l); touched = 0 }) ++ drop FLAGS l
+      → n ≡ moved_from (with_cr h v) l
+  unfolding moved_from
   finished_move l n p ep e = rw (← ep, ← eg) e

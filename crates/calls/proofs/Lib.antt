@@ -1,7 +1,6 @@
 -- The laws of the calls on a lent record.
 pub mod RefusalLaws
 pub mod WaitingLaws
-pub mod TypingLaws
 pub mod FinishLaws
 pub mod Changing
 pub mod FreshLaws

@@ -1,17 +1,17 @@
 // New screen.
+ghost use Rattle.octets.specs.Answer.{done, Writes};
 ghost use Rattle.editor.specs.Outcome.{creating};
-ghost use Rattle.octets.specs.Answer.{Writes};
 
-use grid::layout::SIZE;
-use octets::answer::REFUSED;
+use octets::answer::Refusal;
 
 // Takes any width and any sitting, and does not read the old bytes.
-pub fn new_screen(rec: &mut [u8], width: u32, sitting: u32) -> u32
-    ensures { Writes (creating width sitting rec.old) result rec.new }
+#[tactic(auto, using(crate::proofs::FreshLaws::new_refused, crate::proofs::FreshLaws::new_done))]
+pub fn new_screen(rec: &mut [u8], width: u32, sitting: u32) -> Result<(), Refusal>
+    ensures { Writes (creating width sitting rec.old) (done result) rec.new }
 {
-    if rec.len() != SIZE {
-        return REFUSED + 1;
-    }
+    let Some(rec) = rec.as_mut_array() else {
+        return Err(Refusal::WrongLength);
+    };
     grid::fresh::new_screen(rec, width, sitting);
-    0
+    Ok(())
 }

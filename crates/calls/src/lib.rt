@@ -3,6 +3,7 @@
 // Promised: no function here asks anything of its caller. Each contract says, for every lent slice, the number answered and every byte left.
 #![tactic(auto)]
 
+pub mod change;
 pub mod finish;
 pub mod fresh;
 pub mod lines;

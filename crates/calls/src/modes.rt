@@ -1,73 +1,81 @@
 // Document 01, "Motion, modes": the modes, and the calls that blank the screen.
-ghost use Rattle.editor.specs.Call.{Clear, SetWidth, SetInsert, SetAttr, SetKeysOn};
+ghost use Rattle.std.specs.Prelude.{◌≤◌};
+ghost use Rattle.octets.specs.Answer.{done};
+ghost use Rattle.grid.specs.Facts.{Valid};
+ghost use Rattle.grid.specs.Record.{screen_of, Leaves, Moves};
+ghost use Rattle.editor.specs.Call.{Clear, SetWidth, SetInsert, SetAttr, SetKeysOn, apply};
 ghost use Rattle.editor.specs.Outcome.{changing};
 ghost use Rattle.calls.specs.Answers.{Answers};
 
-use crate::finish::{finish, finish_move};
-use crate::refusal::change_refused;
-use grid::refusal::range_refused;
-use grid::row;
+use crate::change::{changed, moved};
+use grid::head::Head;
+use grid::layout::Record;
+use grid::refusal::in_range;
 use moves::modes;
+use octets::answer::Refusal;
 use octets::width::width_ok;
 
-pub fn clear(rec: &mut [u8]) -> u32
-    ensures { Answers (changing Clear rec.old) result rec.new }
+pub fn clear(rec: &mut [u8]) -> Result<(), Refusal>
+    ensures { Answers (changing Clear rec.old) (done result) rec.new }
 {
-    let n = change_refused(rec, true, 0);
-    if n != 0 {
-        return n;
-    }
-    let old = row::copy_of(rec);
-    let h = modes::clear(rec);
-    finish(rec, &old, h);
-    0
+    changed(
+        rec,
+        Ok(()),
+        |rec: &mut Record, _old: &Record| -> Head
+            requires { Valid rec.old }
+            ensures { Leaves (apply Clear (screen_of rec.old)) rec.old rec.new result }
+        { modes::clear(rec) },
+    )
 }
 
-pub fn set_width(rec: &mut [u8], width: u32) -> u32
-    ensures { Answers (changing (SetWidth width) rec.old) result rec.new }
+pub fn set_width(rec: &mut [u8], width: u32) -> Result<(), Refusal>
+    ensures { Answers (changing (SetWidth width) rec.old) (done result) rec.new }
 {
-    let n = change_refused(rec, true, range_refused(width_ok(width as usize)));
-    if n != 0 {
-        return n;
-    }
-    let old = row::copy_of(rec);
-    let h = modes::set_width(rec, width);
-    finish(rec, &old, h);
-    0
+    changed(
+        rec,
+        in_range(width_ok(width as usize)),
+        |rec: &mut Record, _old: &Record| -> Head
+            requires { Valid rec.old × (width ≤ 80) }
+            ensures { Leaves (apply (SetWidth width) (screen_of rec.old)) rec.old rec.new result }
+        { modes::set_width(rec, width) },
+    )
 }
 
-pub fn set_insert(rec: &mut [u8], on: u32) -> u32
-    ensures { Answers (changing (SetInsert on) rec.old) result rec.new }
+pub fn set_insert(rec: &mut [u8], on: u32) -> Result<(), Refusal>
+    ensures { Answers (changing (SetInsert on) rec.old) (done result) rec.new }
 {
-    let n = change_refused(rec, true, range_refused(on <= 1));
-    if n != 0 {
-        return n;
-    }
-    let h = modes::set_insert(rec, on as u8);
-    finish_move(rec, h);
-    0
+    moved(
+        rec,
+        in_range(on <= 1),
+        |rec: &Record| -> Head
+            requires { Valid rec.now × (on ≤ 255) }
+            ensures { Moves (apply (SetInsert on) (screen_of rec.now)) rec.now result }
+        { modes::set_insert(rec, on as u8) },
+    )
 }
 
-pub fn set_attr(rec: &mut [u8], attr: u32) -> u32
-    ensures { Answers (changing (SetAttr attr) rec.old) result rec.new }
+pub fn set_attr(rec: &mut [u8], attr: u32) -> Result<(), Refusal>
+    ensures { Answers (changing (SetAttr attr) rec.old) (done result) rec.new }
 {
-    let n = change_refused(rec, true, range_refused(attr <= 255));
-    if n != 0 {
-        return n;
-    }
-    let h = modes::set_attr(rec, attr as u8);
-    finish_move(rec, h);
-    0
+    moved(
+        rec,
+        in_range(attr <= 255),
+        |rec: &Record| -> Head
+            requires { Valid rec.now × (attr ≤ 255) }
+            ensures { Moves (apply (SetAttr attr) (screen_of rec.now)) rec.now result }
+        { modes::set_attr(rec, attr as u8) },
+    )
 }
 
-pub fn set_keys_on(rec: &mut [u8], on: u32) -> u32
-    ensures { Answers (changing (SetKeysOn on) rec.old) result rec.new }
+pub fn set_keys_on(rec: &mut [u8], on: u32) -> Result<(), Refusal>
+    ensures { Answers (changing (SetKeysOn on) rec.old) (done result) rec.new }
 {
-    let n = change_refused(rec, true, range_refused(on <= 1));
-    if n != 0 {
-        return n;
-    }
-    let h = modes::set_keys_on(rec, on as u8);
-    finish_move(rec, h);
-    0
+    moved(
+        rec,
+        in_range(on <= 1),
+        |rec: &Record| -> Head
+            requires { Valid rec.now × (on ≤ 255) }
+            ensures { Moves (apply (SetKeysOn on) (screen_of rec.now)) rec.now result }
+        { modes::set_keys_on(rec, on as u8) },
+    )
 }

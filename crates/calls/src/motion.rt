@@ -1,93 +1,63 @@
-// Document 01, "Motion, modes": the moves. A move touches no row, so it needs no copy of the record.
-ghost use Rattle.editor.specs.Call.{MoveLeft, MoveRight, MoveUp, MoveDown, Home, EndOfLine, SetCursor};
+// Document 01, "Motion, modes": the moves.
+ghost use Rattle.octets.specs.Answer.{done};
+ghost use Rattle.editor.specs.Call.{MoveLeft, MoveRight, MoveUp, MoveDown, Home, EndOfLine, SetCursor, apply};
+ghost use Rattle.grid.specs.Facts.{Valid};
+ghost use Rattle.grid.specs.Record.{screen_of, Moves};
 ghost use Rattle.editor.specs.Outcome.{changing};
 ghost use Rattle.calls.specs.Answers.{Answers};
 
-use crate::finish::finish_move;
-use crate::refusal::change_refused;
+use crate::change::moved;
+use grid::head::Head;
+use grid::layout::Record;
 use moves::motion;
+use octets::answer::Refusal;
 
-pub fn move_left(rec: &mut [u8]) -> u32
-    ensures { Answers (changing MoveLeft rec.old) result rec.new }
+pub fn move_left(rec: &mut [u8]) -> Result<(), Refusal>
+    ensures { Answers (changing MoveLeft rec.old) (done result) rec.new }
 {
-    let n = change_refused(rec, true, 0);
-    if n != 0 {
-        return n;
-    }
-    let h = motion::move_left(rec);
-    finish_move(rec, h);
-    0
+    moved(rec, Ok(()), motion::move_left)
 }
 
-pub fn move_right(rec: &mut [u8]) -> u32
-    ensures { Answers (changing MoveRight rec.old) result rec.new }
+pub fn move_right(rec: &mut [u8]) -> Result<(), Refusal>
+    ensures { Answers (changing MoveRight rec.old) (done result) rec.new }
 {
-    let n = change_refused(rec, true, 0);
-    if n != 0 {
-        return n;
-    }
-    let h = motion::move_right(rec);
-    finish_move(rec, h);
-    0
+    moved(rec, Ok(()), motion::move_right)
 }
 
-pub fn move_up(rec: &mut [u8]) -> u32
-    ensures { Answers (changing MoveUp rec.old) result rec.new }
+pub fn move_up(rec: &mut [u8]) -> Result<(), Refusal>
+    ensures { Answers (changing MoveUp rec.old) (done result) rec.new }
 {
-    let n = change_refused(rec, true, 0);
-    if n != 0 {
-        return n;
-    }
-    let h = motion::move_up(rec);
-    finish_move(rec, h);
-    0
+    moved(rec, Ok(()), motion::move_up)
 }
 
-pub fn move_down(rec: &mut [u8]) -> u32
-    ensures { Answers (changing MoveDown rec.old) result rec.new }
+pub fn move_down(rec: &mut [u8]) -> Result<(), Refusal>
+    ensures { Answers (changing MoveDown rec.old) (done result) rec.new }
 {
-    let n = change_refused(rec, true, 0);
-    if n != 0 {
-        return n;
-    }
-    let h = motion::move_down(rec);
-    finish_move(rec, h);
-    0
+    moved(rec, Ok(()), motion::move_down)
 }
 
-pub fn home(rec: &mut [u8]) -> u32
-    ensures { Answers (changing Home rec.old) result rec.new }
+pub fn home(rec: &mut [u8]) -> Result<(), Refusal>
+    ensures { Answers (changing Home rec.old) (done result) rec.new }
 {
-    let n = change_refused(rec, true, 0);
-    if n != 0 {
-        return n;
-    }
-    let h = motion::home(rec);
-    finish_move(rec, h);
-    0
+    moved(rec, Ok(()), motion::home)
 }
 
-pub fn end_of_line(rec: &mut [u8]) -> u32
-    ensures { Answers (changing EndOfLine rec.old) result rec.new }
+pub fn end_of_line(rec: &mut [u8]) -> Result<(), Refusal>
+    ensures { Answers (changing EndOfLine rec.old) (done result) rec.new }
 {
-    let n = change_refused(rec, true, 0);
-    if n != 0 {
-        return n;
-    }
-    let h = motion::end_of_line(rec);
-    finish_move(rec, h);
-    0
+    moved(rec, Ok(()), motion::end_of_line)
 }
 
 // Any row and column: the cursor is clamped.
-pub fn set_cursor(rec: &mut [u8], row: u32, col: u32) -> u32
-    ensures { Answers (changing (SetCursor row col) rec.old) result rec.new }
+pub fn set_cursor(rec: &mut [u8], row: u32, col: u32) -> Result<(), Refusal>
+    ensures { Answers (changing (SetCursor row col) rec.old) (done result) rec.new }
 {
-    let n = change_refused(rec, true, 0);
-    if n != 0 {
-        return n;
-    }
-    let h = motion::set_cursor(rec, row, col);
-    finish_move(rec, h);
-    0
+    moved(
+        rec,
+        Ok(()),
+        |rec: &Record| -> Head
+            requires { Valid rec.now }
+            ensures { Moves (apply (SetCursor row col) (screen_of rec.now)) rec.now result }
+        { motion::set_cursor(rec, row, col) },
+    )
 }

@@ -1,87 +1,64 @@
 // The refusals of changing calls, beside those that all calls on a record share.
-ghost use Rattle.std.specs.Prelude.{◌≡◌, true, [], ◌∷◌, length};
-ghost use Rattle.octets.specs.Refusals.{first_of, refused_with};
+ghost use Rattle.std.specs.Prelude.{◌≡◌, [], ◌∷◌, length};
+ghost use Rattle.octets.specs.Answer.{found};
+ghost use Rattle.octets.specs.Refusals.{first_of, or_else};
 ghost use Rattle.grid.specs.Layout.{SIZE};
-ghost use Rattle.editor.specs.Call.{limited_ok};
-ghost use Rattle.calls.specs.Parts.{late_answer, change_answer, split_answer};
+ghost use Rattle.grid.specs.Record.{screen_of};
+ghost use Rattle.editor.specs.Call.{PrintChecked, limited_ok, own};
+ghost use Rattle.editor.specs.Outcome.{serial_tests};
 
 use editor::print;
-use grid::refusal::{range_refused, record_refused};
+use grid::head;
+use grid::layout::Record;
+use grid::refusal::in_range;
 use line::text::MAX_LOGICAL;
-use octets::answer::REFUSED;
+use octets::answer::Refusal;
 
 const LAST_SERIAL: u32 = 4294967295;
 
-// What a changing call answers if it is refused behind the record's refusals, else 0. own: what the call's own refusals answer.
-fn late_refused(rec: &[u8], own: u32) -> u32
-    requires { length rec.now ≡ SIZE }
-    ensures { result ≡ late_answer own rec.now }
+// Behind the record's refusals, own is what the call's own refusals find, and the last serial has no next.
+#[tactic(auto, using(crate::proofs::RefusalLaws::own_refused, crate::proofs::RefusalLaws::last_refused, crate::proofs::RefusalLaws::not_last))]
+pub(crate) fn late(rec: &Record, own: Result<(), Refusal>) -> Result<(), Refusal>
+    ensures { found result ≡ or_else (found own) (first_of (serial_tests rec.now)) }
 {
-    if own != 0 {
-        return own;
+    own?;
+    if head::read_pair(rec).serial == LAST_SERIAL {
+        return Err(Refusal::SpentSerial);
     }
-    let p = grid::head::read_pair(rec);
-    if p.serial == LAST_SERIAL {
-        return REFUSED + 4;
-    }
-    0
+    Ok(())
 }
 
-// What a changing call answers if it is refused, else 0. lengths: every lent slice beside the record has a length that is taken; own: what the call's own
-// refusals answer, 0 if there is none.
-pub fn change_refused(rec: &[u8], lengths: bool, own: u32) -> u32
-    ensures { result ≡ change_answer lengths own rec.now }
+// The checked print's own refusal, of a slice that has a record's length.
+#[tactic(auto, using(crate::proofs::RefusalLaws::split_found, crate::proofs::RefusalLaws::split_none))]
+pub(crate) fn whole_line_ends(rec: &[u8], bytes: &[u8]) -> Result<(), Refusal>
+    ensures { length rec.now ≡ SIZE → found result ≡ first_of (own (PrintChecked bytes.now) (screen_of rec.now)) }
 {
-    let n = record_refused(rec, lengths);
-    if n != 0 {
-        return n;
-    }
-    late_refused(rec, own)
-}
-
-// What the checked print's own refusal answers, else 0.
-fn split_refused(rec: &[u8], bytes: &[u8]) -> u32
-    requires { length rec.now ≡ SIZE }
-    ensures { result ≡ split_answer bytes.now rec.now }
-{
+    let Some(rec) = rec.as_array() else {
+        return Ok(());
+    };
     if print::splits(rec, bytes) {
-        return REFUSED + 13;
+        return Err(Refusal::SplitLineEnd);
     }
-    0
+    Ok(())
 }
 
-// What the checked print answers if it is refused, else 0. Its own refusal looks into the record, so it is looked for when the record's length is known.
-pub fn checked_refused(rec: &[u8], bytes: &[u8]) -> u32
-    ensures { result ≡ change_answer true (split_answer bytes.now rec.now) rec.now }
+// The waiting print's own refusals. few: the limit of rows is in range; fits: the input is not too long.
+#[tactic(auto, unfolding(octets::specs::Refusals::first_of))]
+pub(crate) fn can_wait(few: bool, fits: bool) -> Result<(), Refusal>
+    ensures { found result ≡ first_of ((3, few) ∷ (7, fits) ∷ []) }
 {
-    let n = record_refused(rec, true);
-    if n != 0 {
-        return n;
+    in_range(few)?;
+    if !fits {
+        return Err(Refusal::LongInput);
     }
-    late_refused(rec, split_refused(rec, bytes))
+    Ok(())
 }
 
-// What the waiting print's own refusals answer, else 0. few: the limit of rows is in range; fits: the input is not too long.
-pub fn waiting_refused(few: bool, fits: bool) -> u32
-    ensures { result ≡ refused_with (first_of ((3, few) ∷ (7, fits) ∷ [])) }
+// The limited typing's own refusal.
+#[tactic(auto, using(std::proofs::lemmas::Bool::Decides::nat_tests), unfolding(editor::specs::Call::limited_ok))]
+pub(crate) fn can_limit(ch: u32, limit: usize) -> Result<(), Refusal>
+    ensures { found result ≡ first_of ((3, limited_ok ch limit) ∷ []) }
 {
-    let n = range_refused(few);
-    if n != 0 {
-        return n;
-    }
-    if fits { 0 } else { REFUSED + 7 }
-}
-
-// What the limited typing's own refusal answers, else 0.
-pub fn limited_refused(ch: u32, limit: usize) -> u32
-    ensures { result ≡ refused_with (first_of ((3, limited_ok ch limit) ∷ [])) }
-{
-    if limit < 1 {
-        return REFUSED + 3;
-    }
     let low = limit <= MAX_LOGICAL;
-    if low {
-        return range_refused(ch <= 255);
-    }
-    REFUSED + 3
+    in_range(1 <= limit && low && ch <= 255)
 }

@@ -1,22 +1,27 @@
 // Document 01, "Typing and line keys": tab.
-ghost use Rattle.editor.specs.Call.{Tab};
+ghost use Rattle.octets.specs.Answer.{done};
+ghost use Rattle.grid.specs.Facts.{Valid};
+ghost use Rattle.grid.specs.Record.{screen_of};
+ghost use Rattle.editor.specs.Call.{Tab, apply};
+ghost use Rattle.editor.specs.Given.{Ends};
 ghost use Rattle.editor.specs.Outcome.{changing};
 ghost use Rattle.calls.specs.Answers.{Answers};
 
-use crate::finish::finish;
-use crate::refusal::change_refused;
+use crate::change::changed;
 use editor::tab;
-use grid::row;
+use grid::head::Head;
+use grid::layout::Record;
+use octets::answer::Refusal;
 
-pub fn tab(rec: &mut [u8]) -> u32
-    ensures { Answers (changing Tab rec.old) result rec.new }
+pub fn tab(rec: &mut [u8]) -> Result<(), Refusal>
+    ensures { Answers (changing Tab rec.old) (done result) rec.new }
 {
-    let n = change_refused(rec, true, 0);
-    if n != 0 {
-        return n;
-    }
-    let old = row::copy_of(rec);
-    let h = tab::tab(rec);
-    finish(rec, &old, h);
-    0
+    changed(
+        rec,
+        Ok(()),
+        |rec: &mut Record, _old: &Record| -> Head
+            requires { Valid rec.old }
+            ensures { Ends (apply Tab (screen_of rec.old)) rec.new result }
+        { tab::tab(rec) },
+    )
 }

@@ -1,77 +1,62 @@
 // Document 01, "Typing and line keys": the keys that type and erase characters.
-ghost use Rattle.editor.specs.Call.{TypeChar, TypeLimited, Backspace, DeleteChar, EraseToEnd};
+ghost use Rattle.std.specs.Prelude.{◌≤◌};
+ghost use Rattle.octets.specs.Answer.{done};
+ghost use Rattle.grid.specs.Record.{screen_of, Leaves};
+ghost use Rattle.line.specs.Line.{MAX-LOGICAL};
+ghost use Rattle.editor.specs.Call.{TypeChar, TypeLimited, Backspace, DeleteChar, EraseToEnd, apply};
+ghost use Rattle.editor.specs.Given.{Copied};
 ghost use Rattle.editor.specs.Outcome.{changing};
 ghost use Rattle.calls.specs.Answers.{Answers};
 
-use crate::finish::finish;
-use crate::refusal::{change_refused, limited_refused};
+use crate::change::changed;
+use crate::refusal::can_limit;
 use editor::typing;
-use grid::refusal::range_refused;
-use grid::row;
+use grid::head::Head;
+use grid::layout::Record;
+use grid::refusal::in_range;
+use octets::answer::Refusal;
 
-pub fn type_char(rec: &mut [u8], ch: u32) -> u32
-    ensures { Answers (changing (TypeChar ch) rec.old) result rec.new }
+pub fn type_char(rec: &mut [u8], ch: u32) -> Result<(), Refusal>
+    ensures { Answers (changing (TypeChar ch) rec.old) (done result) rec.new }
 {
-    let n = change_refused(rec, true, range_refused(ch <= 255));
-    if n != 0 {
-        return n;
-    }
-    let old = row::copy_of(rec);
-    let h = typing::type_char(rec, &old, ch as u8);
-    finish(rec, &old, h);
-    0
+    changed(
+        rec,
+        in_range(ch <= 255),
+        |rec: &mut Record, old: &Record| -> Head
+            requires { Copied rec.old old.now × (ch ≤ 255) }
+            ensures { Leaves (apply (TypeChar ch) (screen_of old.now)) rec.old rec.new result }
+        { typing::type_char(rec, old, ch as u8) },
+    )
 }
 
 // Document 02, (g): typing with a limit.
-pub fn type_limited(rec: &mut [u8], ch: u32, limit: u32) -> u32
-    ensures { Answers (changing (TypeLimited ch limit) rec.old) result rec.new }
+pub fn type_limited(rec: &mut [u8], ch: u32, limit: u32) -> Result<(), Refusal>
+    ensures { Answers (changing (TypeLimited ch limit) rec.old) (done result) rec.new }
 {
-    let most = limit as usize;
-    let n = change_refused(rec, true, limited_refused(ch, most));
-    if n != 0 {
-        return n;
-    }
-    let old = row::copy_of(rec);
-    let h = typing::type_limited(rec, &old, ch as u8, most);
-    finish(rec, &old, h);
-    0
+    changed(
+        rec,
+        can_limit(ch, limit as usize),
+        |rec: &mut Record, old: &Record| -> Head
+            requires { Copied rec.old old.now × (ch ≤ 255) × (limit ≤ MAX-LOGICAL) }
+            ensures { Leaves (apply (TypeLimited ch limit) (screen_of old.now)) rec.old rec.new result }
+        { typing::type_limited(rec, old, ch as u8, limit as usize) },
+    )
 }
 
-pub fn backspace(rec: &mut [u8]) -> u32
-    ensures { Answers (changing Backspace rec.old) result rec.new }
+pub fn backspace(rec: &mut [u8]) -> Result<(), Refusal>
+    ensures { Answers (changing Backspace rec.old) (done result) rec.new }
 {
-    let n = change_refused(rec, true, 0);
-    if n != 0 {
-        return n;
-    }
-    let old = row::copy_of(rec);
-    let h = typing::backspace(rec, &old);
-    finish(rec, &old, h);
-    0
+    changed(rec, Ok(()), typing::backspace)
 }
 
-pub fn delete_char(rec: &mut [u8]) -> u32
-    ensures { Answers (changing DeleteChar rec.old) result rec.new }
+pub fn delete_char(rec: &mut [u8]) -> Result<(), Refusal>
+    ensures { Answers (changing DeleteChar rec.old) (done result) rec.new }
 {
-    let n = change_refused(rec, true, 0);
-    if n != 0 {
-        return n;
-    }
-    let old = row::copy_of(rec);
-    let h = typing::delete_char(rec, &old);
-    finish(rec, &old, h);
-    0
+    changed(rec, Ok(()), typing::delete_char)
 }
 
-pub fn erase_to_end(rec: &mut [u8]) -> u32
-    ensures { Answers (changing EraseToEnd rec.old) result rec.new }
+pub fn erase_to_end(rec: &mut [u8]) -> Result<(), Refusal>
+    ensures { Answers (changing EraseToEnd rec.old) (done result) rec.new }
 {
-    let n = change_refused(rec, true, 0);
-    if n != 0 {
-        return n;
-    }
-    let old = row::copy_of(rec);
-    let h = typing::erase_to_end(rec, &old);
-    finish(rec, &old, h);
-    0
+    changed(rec, Ok(()), typing::erase_to_end)
 }

@@ -1,32 +1,21 @@
 // Document 01, "Motion, modes": the moves by words.
+ghost use Rattle.octets.specs.Answer.{done};
 ghost use Rattle.editor.specs.Call.{WordLeft, WordRight};
 ghost use Rattle.editor.specs.Outcome.{changing};
 ghost use Rattle.calls.specs.Answers.{Answers};
 
-use crate::finish::finish_move;
-use crate::refusal::change_refused;
+use crate::change::moved;
 use moves::words;
+use octets::answer::Refusal;
 
-pub fn word_left(rec: &mut [u8]) -> u32
-    ensures { Answers (changing WordLeft rec.old) result rec.new }
+pub fn word_left(rec: &mut [u8]) -> Result<(), Refusal>
+    ensures { Answers (changing WordLeft rec.old) (done result) rec.new }
 {
-    let n = change_refused(rec, true, 0);
-    if n != 0 {
-        return n;
-    }
-    let h = words::word_left(rec);
-    finish_move(rec, h);
-    0
+    moved(rec, Ok(()), words::word_left)
 }
 
-pub fn word_right(rec: &mut [u8]) -> u32
-    ensures { Answers (changing WordRight rec.old) result rec.new }
+pub fn word_right(rec: &mut [u8]) -> Result<(), Refusal>
+    ensures { Answers (changing WordRight rec.old) (done result) rec.new }
 {
-    let n = change_refused(rec, true, 0);
-    if n != 0 {
-        return n;
-    }
-    let h = words::word_right(rec);
-    finish_move(rec, h);
-    0
+    moved(rec, Ok(()), words::word_right)
 }

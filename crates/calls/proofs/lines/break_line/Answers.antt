@@ -1,24 +1,20 @@
 -- `calls::lines::break_line` meets its contract.
-use Rattle.std.proofs.Common.{rules}
-use Rattle.calls.proofs.Changing.{call_size, call_valid, copy_size, copy_serial, call_refused, leaves_fits, call_done}
-use Rattle.calls.proofs.RefusalLaws.{no_own}
-use Rattle.editor.specs.Call.{lengths, own, answer, rule, cr_left, cr_after}
+use Rattle.std.proofs.Common.{rules, refl, Ok}
+use Rattle.octets.specs.Refusals.{first_of, all_pass}
+use Rattle.grid.specs.Record.{screen_of, Leaves}
+use Rattle.editor.specs.Call.{BreakLine, lengths, own, in_range, apply, answer, rule, cr_left, cr_after}
+use Rattle.calls.proofs.Changing.{ends_fits, worked_ends, changed_answers}
 use Rattle.calls.proofs.lines.break_line.Goals as goal
 
-pub returns-then-n-ne0 : goal.returns-then-n-ne0
-unfolding lengths own rule
-returns-then-n-ne0 c = search (rules, call_refused, no_own)
-
-pub copy_of-old-requires : goal.copy_of-old-requires
-copy_of-old-requires c = search (rules, call_size)
-
-pub break_line-h-requires : goal.break_line-h-requires
-break_line-h-requires c = search (rules, call_valid)
-
-pub finish-requires : goal.finish-requires
-unfolding lengths own rule
-finish-requires c = (search (rules, call_size), search (rules, copy_size), search (rules, leaves_fits, no_own), search (rules, copy_serial))
+pub changed-requires-clause-fits : goal.changed-requires-clause-fits
+unfolding in_range own rule all_pass
+changed-requires-clause-fits c = λ l m h z v w.
+    let left : Leaves (apply BreakLine (screen_of w.lent.now)) w.lent.now w.left.now h = search (rules, w.met) in
+    ends_fits BreakLine l m h refl v (worked_ends BreakLine l m w.lent.now w.lent.now w.left.now h w.shows.0 w.shows.0 w.leaves left)
 
 pub returns : goal.returns
-unfolding lengths own answer rule cr_left cr_after
-returns c = search (rules, call_done, no_own)
+unfolding lengths own first_of answer rule cr_left cr_after
+returns c =
+    changed_answers BreakLine c.args.rec.now c.changed.new.rec (Ok tt) _ refl refl refl refl c.changed.ensures.refusal c.changed.ensures.kept _ _
+    (λ h m w. let left : Leaves (apply BreakLine (screen_of w.lent.now)) w.lent.now w.left.now h = search (rules, w.met) in worked_ends BreakLine c.args.rec.now m w.lent.now w.lent.now w.left.now h w.shows.0 w.shows.0 w.leaves left)
+    c.changed.ensures.done

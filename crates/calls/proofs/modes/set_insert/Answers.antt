@@ -1,24 +1,17 @@
 -- `calls::modes::set_insert` meets its contract.
-use Rattle.std.proofs.Common.{rules}
-use Rattle.calls.proofs.Changing.{call_size, call_valid, call_serial, switch_fits, call_refused, moves_fits, move_done}
-use Rattle.calls.proofs.RefusalLaws.{range_known}
-use Rattle.editor.specs.Call.{lengths, own, answer, rule, cr_left, cr_after}
+use Rattle.std.proofs.Common.{refl}
+use Rattle.octets.specs.Refusals.{first_of, all_pass}
+use Rattle.editor.specs.Call.{SetInsert, lengths, own, in_range, answer, rule, cr_left, cr_after}
+use Rattle.calls.proofs.Changing.{kept_fits, moved_answers, tested_range, switch_most}
 use Rattle.calls.proofs.modes.set_insert.Goals as goal
 
-pub returns-then-n-ne0 : goal.returns-then-n-ne0
-unfolding lengths own rule
-returns-then-n-ne0 c = search (rules, call_refused)
+pub moved-requires-clause-may : goal.moved-requires-clause-may
+moved-requires-clause-may c = λ r z v. (v, switch_most _ _ c.in_range.ensures z)
 
-pub overflow_cast-on : goal.overflow_cast-on
-overflow_cast-on c = search (rules, switch_fits, range_known)
-
-pub set_insert-h-requires : goal.set_insert-h-requires
-set_insert-h-requires c = search (rules, call_valid)
-
-pub finish_move-requires : goal.finish_move-requires
-unfolding lengths own rule
-finish_move-requires c = (search (rules, call_size), search (rules, moves_fits), search (rules, call_serial))
+pub moved-requires-clause-fits : goal.moved-requires-clause-fits
+unfolding in_range own rule all_pass
+moved-requires-clause-fits c = λ r h z v m. kept_fits (SetInsert c.args.on) r.now h (tested_range _ _ z c.in_range.ensures) v m.head
 
 pub returns : goal.returns
-unfolding lengths own answer rule cr_left cr_after
-returns c = search (rules, move_done)
+unfolding lengths own first_of answer rule cr_left cr_after
+returns c = moved_answers (SetInsert c.args.on) _ _ c.in_range.result _ refl c.in_range.ensures refl refl c.moved.ensures.refusal c.moved.ensures.kept c.moved.ensures.done

@@ -1,21 +1,14 @@
 -- `calls::motion::move_down` meets its contract.
-use Rattle.std.proofs.Common.{rules}
-use Rattle.calls.proofs.Changing.{call_size, call_valid, call_serial, call_refused, moves_fits, move_done}
-use Rattle.calls.proofs.RefusalLaws.{no_own}
-use Rattle.editor.specs.Call.{lengths, own, answer, rule, cr_left, cr_after}
+use Rattle.std.proofs.Common.{refl, Ok}
+use Rattle.octets.specs.Refusals.{first_of, all_pass}
+use Rattle.editor.specs.Call.{MoveDown, lengths, own, in_range, answer, rule, cr_left, cr_after}
+use Rattle.calls.proofs.Changing.{kept_fits, moved_answers}
 use Rattle.calls.proofs.motion.move_down.Goals as goal
 
-pub returns-then-n-ne0 : goal.returns-then-n-ne0
-unfolding lengths own rule
-returns-then-n-ne0 c = search (rules, call_refused, no_own)
-
-pub move_down-h-requires : goal.move_down-h-requires
-move_down-h-requires c = search (rules, call_valid)
-
-pub finish_move-requires : goal.finish_move-requires
-unfolding lengths own rule
-finish_move-requires c = (search (rules, call_size), search (rules, moves_fits, no_own), search (rules, call_serial))
+pub moved-requires-clause-fits : goal.moved-requires-clause-fits
+unfolding in_range own rule all_pass
+moved-requires-clause-fits c = λ r h z v m. kept_fits MoveDown r.now h refl v m.head
 
 pub returns : goal.returns
-unfolding lengths own answer rule cr_left cr_after
-returns c = search (rules, move_done, no_own)
+unfolding lengths own first_of answer rule cr_left cr_after
+returns c = moved_answers MoveDown _ _ (Ok tt) _ refl refl refl refl c.moved.ensures.refusal c.moved.ensures.kept c.moved.ensures.done

@@ -1,27 +1,23 @@
 -- `calls::typing::type_char` meets its contract.
-use Rattle.std.proofs.Common.{rules}
-use Rattle.calls.proofs.Changing.{call_size, copy_size, call_copied, copy_serial, byte_fits, call_refused, copied_fits, copied_done}
-use Rattle.calls.proofs.RefusalLaws.{range_known}
-use Rattle.editor.specs.Call.{lengths, own, answer, rule, cr_left, cr_after}
+use Rattle.std.proofs.Common.{rules, refl}
+use Rattle.octets.specs.Refusals.{first_of, all_pass}
+use Rattle.grid.specs.Record.{screen_of, Leaves}
+use Rattle.editor.specs.Call.{TypeChar, lengths, own, in_range, apply, answer, rule, cr_left, cr_after}
+use Rattle.calls.proofs.Changing.{ends_fits, worked_ends, changed_answers, tested_range, byte_most, copied_here}
 use Rattle.calls.proofs.typing.type_char.Goals as goal
 
-pub returns-then-n-ne0 : goal.returns-then-n-ne0
-unfolding lengths own rule
-returns-then-n-ne0 c = search (rules, call_refused)
+pub changed-requires-clause-may : goal.changed-requires-clause-may
+changed-requires-clause-may c = λ r o z v e. (copied_here _ _ v e, byte_most _ _ c.in_range.ensures z)
 
-pub copy_of-old-requires : goal.copy_of-old-requires
-copy_of-old-requires c = search (rules, call_size)
-
-pub overflow_cast-ch : goal.overflow_cast-ch
-overflow_cast-ch c = search (rules, byte_fits, range_known)
-
-pub type_char-h-requires : goal.type_char-h-requires
-type_char-h-requires c = search (rules, call_copied)
-
-pub finish-requires : goal.finish-requires
-unfolding lengths own rule
-finish-requires c = (search (rules, call_size), search (rules, copy_size), search (rules, copied_fits), search (rules, copy_serial))
+pub changed-requires-clause-fits : goal.changed-requires-clause-fits
+unfolding in_range own rule all_pass
+changed-requires-clause-fits c = λ l m h z v w.
+    let left : Leaves (apply (TypeChar c.args.ch) (screen_of w.copy.now)) w.lent.now w.left.now h = search (rules, w.met) in
+    ends_fits (TypeChar c.args.ch) l m h (tested_range _ _ z c.in_range.ensures) v (worked_ends (TypeChar c.args.ch) l m w.copy.now w.lent.now w.left.now h w.shows.0 w.shows.1 w.leaves left)
 
 pub returns : goal.returns
-unfolding lengths own answer rule cr_left cr_after
-returns c = search (rules, copied_done)
+unfolding lengths own first_of answer rule cr_left cr_after
+returns c =
+    changed_answers (TypeChar c.args.ch) c.args.rec.now c.changed.new.rec c.in_range.result _ refl c.in_range.ensures refl refl c.changed.ensures.refusal c.changed.ensures.kept _ _
+    (λ h m w. let left : Leaves (apply (TypeChar c.args.ch) (screen_of w.copy.now)) w.lent.now w.left.now h = search (rules, w.met) in worked_ends (TypeChar c.args.ch) c.args.rec.now m w.copy.now w.lent.now w.left.now h w.shows.0 w.shows.1 w.leaves left)
+    c.changed.ensures.done
