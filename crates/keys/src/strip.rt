@@ -1,72 +1,59 @@
 // The strip: a slot of eight columns for each key shown.
-ghost use Rattle.std.specs.Prelude.{◌≡◌, ◌+◌, ◌≤◌, ◌<◌, length};
+ghost use Rattle.std.specs.Prelude.{◌≡◌, ◌≤◌, ◌<◌, length};
 ghost use Rattle.octets.specs.Part.{write};
-ghost use Rattle.keys.specs.Keys.{display, displayed, digit, slot, strip};
-ghost use Rattle.keys.specs.Facts.{Full};
+ghost use Rattle.keys.specs.Keys.{macros_of, lengths_of, display, digit, slot, strip};
 
-use crate::table::{KEYS, Lengths, Macros};
-use octets::compare::smaller;
-use octets::part;
+use crate::table::{self, KEYS, Table};
 
 // A left arrow, which stands for 13 and 10.
 pub const CR_GLYPH: u8 = 0x1B;
 
+const SLOT: usize = 8;
+
+#[tactic(auto, using(std::proofs::lemmas::Bool::Decides::nat_tests), unfolding(crate::specs::Keys::display))]
 fn display_byte(b: u8) -> u8
     ensures { result ≡ display b }
 {
-    if b == b'\r' || b == b'\n' {
-        return CR_GLYPH;
+    match b {
+        b'\r' | b'\n' => CR_GLYPH,
+        0..=0x1F | 0x7F => b'.',
+        _ => b,
     }
-    if b < 0x20 || b == 0x7F {
-        return b'.';
-    }
-    b
 }
 
 // The tenth is 0.
+#[tactic(auto, unfolding(crate::specs::Keys::digit))]
 fn digit(key: usize) -> u8
     requires { key < 10 }
     ensures { result ≡ digit key }
 {
-    if key == 9 {
-        return b'0';
-    }
-    b'1' + key as u8
+    if key == 9 { b'0' } else { b'1' + key as u8 }
 }
 
-// Writes the first n bytes of a key's macro, as they are displayed, from index at of out on.
-fn put_display(out: &mut [u8], at: usize, macros: Macros, key: usize, n: usize)
-    requires { (at + n ≤ length out.old) × Full macros × (key < 10) × (n ≤ 15) }
-    ensures { out.new ≡ write out.old at (displayed macros key n) }
+// A key's slot: digit, first six display bytes, spaces to 8 columns.
+#[tactic(auto, using(octets::proofs::PartLaws::write_none, crate::proofs::TableLaws::length_first, crate::proofs::StripLaws::shown_turn))]
+fn slot(tab: &Table, key: usize) -> [u8; SLOT]
+    requires { key < 10 }
+    ensures { result ≡ slot (macros_of tab.now) (lengths_of tab.now) key }
 {
-    let mut j = 0;
-    while j < n {
-        out[at + j] = display_byte(macros[key][j]);
-        j += 1;
+    let n = table::length_at(tab, key).min(6);
+    let shown = &table::macro_at(tab, key)[..n];
+    let mut slot = [b' '; SLOT];
+    slot[0] = digit(key);
+    for (i, b) in shown.iter().enumerate() {
+        slot[1 + i] = display_byte(*b);
     }
-}
-
-// Writes a key's slot from index at of out on: digit, first six display bytes, spaces to 8 columns.
-fn put_slot(out: &mut [u8], at: usize, macros: Macros, lengths: Lengths, key: usize)
-    requires { (at + 8 ≤ length out.old) × Full macros × (key < 10) }
-    ensures { out.new ≡ write out.old at (slot macros lengths key) }
-{
-    let n = smaller(6, lengths[key]);
-    put_display(out, at + 1, macros, key, n);
-    part::fill(out, at + 1 + n, 7 - n, b' ');
-    out[at] = digit(key);
+    slot
 }
 
 // Writes the slots that the width has room for, from the key at the offset on, round ten.
-pub fn strip(macros: Macros, lengths: Lengths, offset: usize, width: usize, out: &mut [u8])
-    requires { Full macros × (offset ≤ 9) × (width ≤ 80) × (width ≤ length out.old) }
-    ensures { out.new ≡ write out.old 0 (strip macros lengths offset width) }
+#[tactic(auto, using(crate::proofs::StripLaws::strip_start, crate::proofs::StripLaws::strip_turn), unfolding(crate::specs::Keys::strip))]
+pub fn strip(tab: &Table, offset: usize, width: usize, out: &mut [u8])
+    requires { (offset ≤ 9) × (width ≤ length out.old) }
+    ensures { out.new ≡ write out.old 0 (strip (macros_of tab.now) (lengths_of tab.now) offset width) }
 {
-    let slots = width / 8;
-    let mut i = 0;
-    while i < slots {
+    for i in 0..width / SLOT {
         let key = (offset + i) % KEYS;
-        put_slot(out, 8 * i, macros, lengths, key);
-        i += 1;
+        out[SLOT * i..SLOT * i + SLOT].copy_from_slice(&slot(tab, key));
     }
 }

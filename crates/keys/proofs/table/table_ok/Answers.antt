@@ -1,19 +1,12 @@
 -- `keys::table::table_ok` meets its contract.
-use Rattle.std.proofs.Common.{rules}
-use Rattle.keys.proofs.TableLaws.{length_found, key_found, keys_start, keys_turn, table_end}
+use Rattle.std.proofs.Common.{rules, refl, ◌∙◌}
+use Rattle.std.proofs.lemmas.Iterator.{YieldsList-from_range}
+use Rattle.std.proofs.lemmas.Iterator.Search.{all_from_yields_List}
+use Rattle.keys.specs.Keys.{valid_key}
+use Rattle.keys.proofs.TableLaws.{ten_tested}
 use Rattle.keys.proofs.table.table_ok.Goals as goal
 
-pub returns-then-tab-ne-TABLE_SIZE : goal.returns-then-tab-ne-TABLE_SIZE
-returns-then-tab-ne-TABLE_SIZE c = search (rules, length_found)
-
-pub loop-k-init : goal.loop-k-init
-loop-k-init c = search (rules, keys_start)
-
-pub returns-then-not-key_ok : goal.returns-then-not-key_ok
-returns-then-not-key_ok c = search (rules, key_found)
-
-pub loop-k-preserved : goal.loop-k-preserved
-loop-k-preserved c = search (rules, keys_turn)
-
 pub returns : goal.returns
-returns c = search (rules, table_end)
+returns c =
+    all_from_yields_List (valid_key c.args.tab.now) _ _ _ c.all.ensures.ran (YieldsList-from_range 0 10 10 refl refl) (λ x b q k. search rules)
+    ∙ ten_tested _ (search rules)
