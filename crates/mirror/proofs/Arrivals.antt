@@ -27,9 +27,8 @@ use Rattle.report.specs.declared.kind.Kind.TheVariants.{Step, Full}
 use Rattle.report.specs.Kind.{mask_of, mask_fits}
 use Rattle.report.specs.Report.{Report, front_of, report_of, report_bytes, read_report}
 use Rattle.report.specs.Carried.{bits}
-use Rattle.mirror.specs.Mirror.{Mirror, due_at, due, width_without_rows, shown, noted, applied, taken, mirror_bytes, read_mirror, level_of, arrival_tests, arrived, leaving, arrived_outcome, arrival}
-use Rattle.mirror.specs.declared.arrive.Arrived.{Arrived}
-use Rattle.mirror.specs.declared.arrive.Arrived.TheVariants.{Refused, Noted, Applied}
+use Rattle.mirror.specs.Mirror.{Mirror, due_at, due, width_without_rows, shown, noted, applied, taken, mirror_bytes, read_mirror, level_of, arrival_tests, Arrived, arrived, leaving, arrived_outcome, arrival}
+use Rattle.mirror.specs.Mirror.Arrived.{Refused, Noted, Applied}
 use Rattle.mirror.specs.Order.{latest, same_pair}
 use Rattle.mirror.specs.Count.{later_of, Count, counted}
 use Rattle.mirror.specs.Demand3.{Sitting, screen_after, Paper, numbered}

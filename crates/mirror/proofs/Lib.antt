@@ -5,7 +5,6 @@ pub mod Later
 pub mod MirrorLaws
 pub mod ArriveRows
 pub mod Conditions
-pub mod ArriveJudged
 pub mod ArriveLeft
 pub mod RoundTrips
 pub mod Refusals

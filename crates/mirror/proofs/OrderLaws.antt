@@ -1,30 +1,41 @@
--- `order`: pairs compared.
+-- Pairs compared: the order that `Pair` has is the one of `specs/Order`, and what is due by it.
 -- Assumes nothing.
-use Prim.Native.Nat.{◌+◌, ◌-◌, ◌≤◌, ◌<◌}
+use Prim.Native.Nat.{◌+◌}
 use mathlib.Core.Path.{◌≡◌, refl, sym, ◌∙◌}
-use mathlib.Core.Bool.{Bool, true, false, or-false}
-use mathlib.Core.Bool
+use mathlib.Core.Bool.{Bool, true, false, not, ◌&&◌, or-false}
 use mathlib.Core.Logic.{◌≢◌, inl, inr}
 use native.Mathlib.Omega.{arith}
 use lib.Dec.{ltb, eqb}
 use borrow.Author.Tests.{eqb-true, eqb-false, eq-eqb, ne_eqb, ltb-false, le-ltb}
-use Rattle.octets.proofs.Bools.{pick, skip, and_left, and_right, and_false}
+use Rattle.std.specs.Ordering.{partial_gt, partial_le, ord_max}
+use Rattle.std.proofs.lemmas.Bool.Decides.{nat_tests}
+use Rattle.octets.proofs.Bools.{and_left, and_right}
 use Rattle.grid.specs.Pair.{next_pair}
 use Rattle.grid.specs.declared.pair.Pair.{Pair}
+use Rattle.grid.specs.contracts.pair.PairPartialOrd.TheImpl.{partial_cmp-value}
+use Rattle.grid.specs.contracts.pair.PairOrd.TheImpl.{cmp-value}
+use Rattle.report.specs.declared.kind.Kind.TheVariants.{Step, Full}
 use Rattle.mirror.specs.Order.{same_pair, later, latest}
+use Rattle.mirror.specs.Mirror.{due_at}
 use Rattle.mirror.specs.Refusals.{AtMost}
 use Rattle.mirror.specs.Count.{is_later}
 use Rattle.mirror.proofs.OneOrder.{later_is}
 
--- ---- `same_pair`
+-- ---- as they are compared in the code
 
-pub same_other : (p q : Pair) → p.serial ≢ q.serial → eqb p.serial q.serial ≡ same_pair p q
-unfolding same_pair
-same_other p q ne = ne_eqb _ _ ne ∙ sym (and_false (eqb p.sitting q.sitting) _ (ne_eqb _ _ ne))
+pub gt_is : (p q : Pair) → partial_gt partial_cmp-value.it p q ≡ later p q
+unfolding later
+gt_is p q = grind (arith, nat_tests)
 
-pub same_serial : (p q : Pair) → p.serial ≡ q.serial → eqb p.sitting q.sitting ≡ same_pair p q
-unfolding same_pair
-same_serial p q e = sym (simp (eq-eqb p.serial q.serial e, Bool.and-true))
+pub le_is : (p q : Pair) → partial_le partial_cmp-value.it p q ≡ not (later p q)
+unfolding later
+le_is p q = grind (arith, nat_tests)
+
+pub max_is : (p q : Pair) → ord_max cmp-value.it p q ≡ latest p q
+unfolding latest later
+max_is p q = grind (arith, nat_tests)
+
+-- ---- equal
 
 pub same_pair_is : (p q : Pair) → same_pair p q ≡ true → p ≡ q
 unfolding same_pair
@@ -33,7 +44,7 @@ same_pair_is p q e =
     let b = eqb-true _ _ (and_right (eqb p.sitting q.sitting) _ e) in
     λ i. record { sitting = a i; serial = b i }
 
--- ---- `later`, `latest`
+-- ---- later
 
 pub later_serial : (p q : Pair) → p.sitting ≡ q.sitting → ltb q.serial p.serial ≡ later p q
 unfolding is_later
@@ -44,27 +55,15 @@ pub later_sitting : (p q : Pair) → p.sitting ≢ q.sitting → ltb q.sitting p
 unfolding is_later
 later_sitting p q ne = sym (or-false _) ∙ sym (rw (ne_eqb p.sitting q.sitting ne) refl) ∙ sym (later_is p q)
 
-pub latest_second : (p q : Pair) (t : Bool) → t ≡ later q p → t ≡ true → q ≡ latest p q
-unfolding latest
-latest_second p q t is e = sym (pick _ _ _ (sym is ∙ e))
+-- ---- due
 
-pub latest_first : (p q : Pair) (t : Bool) → t ≡ later q p → t ≡ false → p ≡ latest p q
-unfolding latest
-latest_first p q t is e = sym (skip _ _ _ (sym is ∙ e))
+pub step_due : (p q : Pair) → due_at Step p q ≡ eqb p.sitting q.sitting && eqb p.serial (q.serial + 1)
+unfolding due_at same_pair next_pair
+step_due p q = refl
 
--- ---- `follows`
-
-pub follows_not : (p q : Pair) → p.serial ≤ q.serial → false ≡ same_pair p (next_pair q)
-unfolding same_pair next_pair
-follows_not p q h = sym (and_false (eqb p.sitting q.sitting) _ (ne_eqb p.serial (q.serial + 1) (λ x. omega arith)))
-
-pub follows_far : (p q : Pair) → q.serial < p.serial → p.serial - q.serial ≢ 1 → false ≡ same_pair p (next_pair q)
-unfolding same_pair next_pair
-follows_far p q h ne = sym (and_false (eqb p.sitting q.sitting) _ (ne_eqb p.serial (q.serial + 1) (λ x. ne (omega arith))))
-
-pub follows_next : (p q : Pair) → q.serial < p.serial → p.serial - q.serial ≡ 1 → eqb p.sitting q.sitting ≡ same_pair p (next_pair q)
-unfolding next_pair
-follows_next p q h e = same_serial p (next_pair q) (omega arith)
+pub full_due : (p q : Pair) → due_at Full p q ≡ later p q
+unfolding due_at
+full_due p q = refl
 
 -- ---- at most
 

@@ -27,7 +27,7 @@ use Rattle.report.specs.Refusals.KindFits.{step, full}
 use Rattle.report.proofs.Conditions.{report_facts, facts_report}
 use Rattle.report.proofs.KindLaws.{step_byte}
 use Rattle.mirror.specs.Layout.{MIRROR-SIZE, RECORD}
-use Rattle.mirror.specs.declared.arrive.Arrived.TheVariants.{Refused, Noted, Applied}
+use Rattle.mirror.specs.Mirror.Arrived.{Refused, Noted, Applied}
 use Rattle.mirror.specs.Mirror.{new_mirror, mirror_bytes, read_mirror, due_at, due, width_without_rows, noted, applied, taken, level_of, leaving, mirrorb, creating_mirror, arrival_tests, arrived, arrived_outcome, arrival}
 use Rattle.mirror.specs.Refusals.{ValidMirror, NewMirrorRefused, CreatingMirrorAnswers, WidthWithoutRows, ArrivalRefused, ArrivalAnswers}
 use Rattle.mirror.specs.Refusals.NewMirrorRefused.{mirror_length as new-length}

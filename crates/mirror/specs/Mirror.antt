@@ -16,8 +16,6 @@ use Rattle.report.specs.Carried.{bits, merge}
 use Rattle.report.specs.Report.{Report, read_report, reportb}
 use Rattle.mirror.specs.Layout.{MIRROR-SIZE, MIRROR-VERSION, NEWEST, RECORD}
 use Rattle.mirror.specs.Order.{same_pair, later, latest}
-use Rattle.mirror.specs.declared.arrive.Arrived.{Arrived}
-use Rattle.mirror.specs.declared.arrive.Arrived.TheVariants.{Refused, Noted, Applied}
 
 -- the newest pair, and a screen record of the shown pair with touched 0
 pub record Mirror : Type 0 where
@@ -99,7 +97,12 @@ arrival_tests l b =
     let μ = read_mirror l in
     (1, eqb (length l) MIRROR-SIZE) ∷ (2, mirrorb l) ∷ (5, reportb b) ∷ (6, not (due r μ && width_without_rows r μ)) ∷ []
 
--- what becomes of it; `Arrived` is the enum of `src/arrive.rt`
+-- what becomes of it: an old or early one, or one of another sitting, is only noted
+pub data Arrived : Type 0 where
+  Refused : ℕ → Arrived
+  Noted : Arrived
+  Applied : Arrived
+
 unfoldable pub arrived : List ℕ → List ℕ → Arrived
 arrived l b =
     let k = first_of (arrival_tests l b) in

@@ -1,115 +1,32 @@
 // A report arrives at a mirror.
-ghost use Rattle.std.specs.Prelude.{◌≡◌, ◌+◌, ◌*◌, ◌≤◌, ◌<◌, length, drop};
+ghost use Rattle.std.specs.Prelude.{◌≡◌, ◌+◌, ◌*◌, ◌≤◌, ◌<◌, not, ◌&&◌, eqb, length, drop};
 ghost use Rattle.std.specs.Int.Count.{ones};
-ghost use Rattle.octets.specs.Answer.{Writes};
-ghost use Rattle.grid.specs.Layout.{SIZE};
-ghost use Rattle.grid.specs.Record.{pair_of, rows_of, read_state, state_bytes, Becomes};
-ghost use Rattle.report.specs.Layout.{ROW-SIZE};
+ghost use Rattle.octets.specs.Answer.{Writes, answered};
+ghost use Rattle.grid.specs.Record.{head_of, rows_of, read_state, state_bytes, Becomes};
+ghost use Rattle.report.specs.Layout.{ROW-SIZE, ALL-ROWS};
 ghost use Rattle.report.specs.Carried.{bits, merge};
-ghost use Rattle.report.specs.Report.{carried_rows, read_report};
+ghost use Rattle.report.specs.Report.{carried_rows, read_front, read_report};
 ghost use Rattle.report.specs.Refusals.{ValidReport};
-ghost use Rattle.mirror.specs.Layout.{MIRROR-SIZE, RECORD};
-ghost use Rattle.mirror.specs.Mirror.{due_at, due, width_without_rows, shown, noted, applied, read_mirror, level_of, leaving, arrived, arrival};
-ghost use Rattle.mirror.specs.Parts.{Room, Placed, PlacedIf, Ready};
+ghost use Rattle.mirror.specs.Layout.{RECORD};
+ghost use Rattle.mirror.specs.Mirror.{shown, arrival};
+ghost use Rattle.mirror.specs.Parts.{Room, Placed, PlacedIf, Heard};
 
-use crate::layout::{MIRROR_SIZE, NEWEST, RECORD};
+use crate::layout::{MirrorRecord, NEWEST};
 use crate::{mirror, order};
-use grid::layout::{SCREEN_ROWS, STRIDE};
+use grid::head::Stamp;
+use grid::layout::{Record, SCREEN_ROWS, STRIDE};
 use grid::pair::Pair;
 use grid::{head, pair, row};
-use octets::answer::REFUSED;
-use report::check::report_ok;
-use report::front::read_front;
-use report::kind::{Kind, rows_at};
-use report::layout::{ALL_ROWS, REPORT_PAIR, ROW_SIZE};
+use octets::answer::Refusal;
+use report::check;
+use report::front::Front;
+use report::layout::{ALL_ROWS, ROW_SIZE};
 use values::mask;
 
-// What becomes of an arriving report.
-#[derive(Clone, Copy)]
-pub enum Arrived {
-    Refused(u32),
-    // Old, early or of another sitting: only the newest pair can change.
-    Noted,
-    Applied,
-}
-
-// 1 if level, else 0.
-fn level(shown: Pair, newest: Pair) -> u32
-    ensures { result ≡ level_of shown newest }
-{
-    if order::same_pair(shown, newest) {
-        1
-    } else {
-        0
-    }
-}
-
-// The pair of the screen shown.
-fn shown_pair(mir: &[u8]) -> Pair
-    requires { length mir.now ≡ MIRROR-SIZE }
-    ensures { result ≡ pair_of (drop RECORD mir.now) }
-{
-    head::read_pair(&mir[RECORD..])
-}
-
-// A step is applied at the next serial of the shown sitting, a full report if its pair is later.
-fn due_at(kind: Kind, p: Pair, shown: Pair) -> bool
-    ensures { result ≡ due_at kind p shown }
-{
-    match kind {
-        Kind::Step => order::follows(p, shown),
-        Kind::Full => order::later(p, shown),
-    }
-}
-
-fn due(mir: &[u8], report: &[u8]) -> bool
-    requires { Ready mir.now report.now }
-    ensures { result ≡ due (read_report report.now) (read_mirror mir.now) }
-{
-    let f = read_front(report);
-    let kind = f.kind;
-    let p = f.pair;
-    let shown = shown_pair(mir);
-    due_at(kind, p, shown)
-}
-
-// Does the report change the width without carrying all 25 rows?
-fn width_without_rows(mir: &[u8], report: &[u8]) -> bool
-    requires { Ready mir.now report.now }
-    ensures { result ≡ width_without_rows (read_report report.now) (read_mirror mir.now) }
-{
-    let f = read_front(report);
-    let g = head::read_head(&mir[RECORD..]);
-    if f.head.width == g.width {
-        return false;
-    }
-    f.mask != ALL_ROWS
-}
-
-fn judged(mir: &[u8], report: &[u8]) -> Arrived
-    ensures { result ≡ arrived mir.now report.now }
-{
-    if mir.len() != MIRROR_SIZE {
-        return Arrived::Refused(1);
-    }
-    if !mirror::mirror_ok(mir) {
-        return Arrived::Refused(2);
-    }
-    if !report_ok(report) {
-        return Arrived::Refused(5);
-    }
-    if !due(mir, report) {
-        return Arrived::Noted;
-    }
-    if width_without_rows(mir, report) {
-        return Arrived::Refused(6);
-    }
-    Arrived::Applied
-}
-
 // Makes the row r that from index at on, and answers the index behind it.
-fn place_row(rec: &mut [u8], r: usize, report: &[u8], at: usize) -> usize
-    requires { (length rec.old ≡ SIZE) × (r < 25) × (at + ROW-SIZE ≤ length report.now) }
+#[tactic(auto, using(crate::proofs::ArriveRows::row_placed))]
+fn place_row(rec: &mut Record, r: usize, report: &[u8], at: usize) -> usize
+    requires { (r < 25) × (at + ROW-SIZE ≤ length report.now) }
     ensures { Placed report.now r at rec.old rec.new result }
 {
     row::put_row(rec, r, report[at], report, at + 1, at + 1 + STRIDE);
@@ -117,8 +34,9 @@ fn place_row(rec: &mut [u8], r: usize, report: &[u8], at: usize) -> usize
 }
 
 // The same if the mask has the row.
-fn take_row(rec: &mut [u8], r: usize, report: &[u8], at: usize, mask: u32) -> usize
-    requires { (length rec.old ≡ SIZE) × (r < 25) × Room report.now mask r at }
+#[tactic(auto, using(crate::proofs::ArriveRows::room_has, crate::proofs::ArriveRows::take_skip, crate::proofs::ArriveRows::take_put))]
+fn take_row(rec: &mut Record, r: usize, report: &[u8], at: usize, mask: u32) -> usize
+    requires { (r < 25) × Room report.now mask r at }
     ensures { PlacedIf report.now mask r at rec.old rec.new result }
 {
     if !mask::has_row(mask, r) {
@@ -128,65 +46,72 @@ fn take_row(rec: &mut [u8], r: usize, report: &[u8], at: usize, mask: u32) -> us
 }
 
 // Replaces the rows of the mask by the carried ones, which stand from index from on.
-fn take_rows(rec: &mut [u8], report: &[u8], from: usize, mask: u32)
-    requires { (length rec.old ≡ SIZE) × (length report.now ≡ from + ROW-SIZE * ones mask) }
+fn take_rows(rec: &mut Record, report: &[u8], from: usize, mask: u32)
+    requires { length report.now ≡ from + ROW-SIZE * ones mask }
     ensures { Becomes rec.old rec.new (merge (bits 25 mask) (carried_rows (ones mask) (drop from report.now)) (rows_of rec.old)) }
 {
     let mut at = from;
-    let mut r = 0;
-    while r < SCREEN_ROWS {
+    for r in 0..SCREEN_ROWS {
         at = take_row(rec, r, report, at, mask);
-        r += 1;
     }
 }
 
-// Makes the record that of the screen which the report leads to.
-fn show(rec: &mut [u8], report: &[u8])
-    requires { (length rec.old ≡ SIZE) × ValidReport report.now }
+// Makes the record that of the screen which the report of the front f leads to.
+fn show(rec: &mut Record, report: &[u8], f: Front)
+    requires { ValidReport report.now × (f ≡ read_front report.now) }
     ensures { rec.new ≡ state_bytes (shown (read_report report.now) (read_state rec.old)) }
 {
-    let f = read_front(report);
-    let kind = f.kind;
-    let h = f.head;
-    let p = f.pair;
-    take_rows(rec, report, rows_at(kind), f.mask);
-    let stamp = head::Stamp {
-        pair: p,
-        touched: 0,
-    };
-    head::write_front(rec, h, stamp);
+    take_rows(rec, report, f.kind.rows_at(), f.mask);
+    head::write_front(
+        rec,
+        f.head,
+        Stamp {
+            pair: f.pair,
+            touched: 0,
+        },
+    );
 }
 
-fn note(mir: &mut [u8], report: &[u8]) -> u32
-    requires { Ready mir.old report.now }
-    ensures { Writes (leaving (noted (read_report report.now) (read_mirror mir.old))) result mir.new }
+// Does a report of the front f change the width without carrying all 25 rows?
+fn width_without_rows(mir: &MirrorRecord, f: Front) -> bool
+    ensures { result ≡ not (eqb f.head.width (head_of (drop RECORD mir.now)).width) && not (eqb f.mask ALL-ROWS) }
 {
-    let p = pair::pair_at(report, REPORT_PAIR);
-    let shown = shown_pair(mir);
-    let newest = order::latest(pair::pair_at(mir, NEWEST), p);
-    mirror::write_front(mir, newest);
-    level(shown, newest)
+    f.head.width != head::read_head(mirror::record(mir)).width && f.mask != ALL_ROWS
 }
 
-fn apply(mir: &mut [u8], report: &[u8]) -> u32
-    requires { Ready mir.old report.now }
-    ensures { Writes (leaving (applied (read_report report.now) (read_mirror mir.old))) result mir.new }
+// Raises the newest pair to p, if that is later, and answers 1 if it is then the one shown, else 0.
+fn hear(mir: &mut MirrorRecord, p: Pair, shown: Pair) -> u32
+    ensures { Heard p shown mir.old mir.new result }
 {
-    let p = pair::pair_at(report, REPORT_PAIR);
-    let newest = order::latest(pair::pair_at(mir, NEWEST), p);
-    show(&mut mir[RECORD..], report);
+    let newest = pair::pair_at(mir, NEWEST).max(p);
     mirror::write_front(mir, newest);
-    level(p, newest)
+    u32::from(shown == newest)
+}
+
+fn arrive(mir: &mut MirrorRecord, report: &[u8]) -> Result<u32, Refusal>
+    ensures { Writes (arrival mir.old report.now) (answered result) mir.new }
+{
+    if !mirror::mirror_ok(mir) {
+        return Err(Refusal::BrokenLayout);
+    }
+    let f = check::report(report).ok_or(Refusal::BrokenReport)?;
+    let shown = head::read_pair(mirror::record(mir));
+    if !order::due(f, shown) {
+        // Old, early or of another sitting: only the newest pair can change.
+        return Ok(hear(mir, f.pair, shown));
+    }
+    if width_without_rows(mir, f) {
+        return Err(Refusal::WidthWithoutRows);
+    }
+    show(mir.last_chunk_mut().unwrap(), report, f);
+    Ok(hear(mir, f.pair, f.pair))
 }
 
 // Answers 1 if the mirror is then level, else 0.
-pub fn mirror_arrive(mir: &mut [u8], report: &[u8]) -> u32
-    ensures { Writes (arrival mir.old report.now) result mir.new }
+#[tactic(auto, using(crate::proofs::ArriveLeft::size_refused))]
+pub fn mirror_arrive(mir: &mut [u8], report: &[u8]) -> Result<u32, Refusal>
+    ensures { Writes (arrival mir.old report.now) (answered result) mir.new }
 {
-    let a = judged(mir, report);
-    match a {
-        Arrived::Refused(k) => REFUSED + k,
-        Arrived::Noted => note(mir, report),
-        Arrived::Applied => apply(mir, report),
-    }
+    let mir = mir.as_mut_array().ok_or(Refusal::WrongLength)?;
+    arrive(mir, report)
 }

@@ -1,47 +1,19 @@
-// The order of pairs: by the sitting first, then by the serial.
+// How the pair of a report stands to the one shown. Which of two pairs is the later, `Pair` itself says.
 ghost use Rattle.std.specs.Prelude.{◌≡◌};
-ghost use Rattle.grid.specs.Pair.{next_pair};
-ghost use Rattle.mirror.specs.Order.{same_pair, later, latest};
+ghost use Rattle.mirror.specs.Mirror.{due_at};
 
 use grid::pair::Pair;
+use report::front::Front;
+use report::kind::Kind;
 
-pub fn same_pair(p: Pair, q: Pair) -> bool
-    ensures { result ≡ same_pair p q }
+// A step is applied at the next serial of the shown sitting, a full report if its pair is later. The last serial has no next.
+#[tactic(auto, using(crate::proofs::OrderLaws::step_due, crate::proofs::OrderLaws::full_due, crate::proofs::OrderLaws::gt_is))]
+pub fn due(f: Front, shown: Pair) -> bool
+    ensures { result ≡ due_at f.kind f.pair shown }
 {
-    p.serial == q.serial && p.sitting == q.sitting
-}
-
-// Is p later than q?
-#[tactic(auto, unfolding(crate::specs::Order::later))]
-pub fn later(p: Pair, q: Pair) -> bool
-    ensures { result ≡ later p q }
-{
-    if p.sitting == q.sitting {
-        return q.serial < p.serial;
+    let p = f.pair;
+    match f.kind {
+        Kind::Step => p.sitting == shown.sitting && shown.serial.checked_add(1) == Some(p.serial),
+        Kind::Full => p > shown,
     }
-    q.sitting < p.sitting
-}
-
-// The later of the two.
-pub fn latest(p: Pair, q: Pair) -> Pair
-    ensures { result ≡ latest p q }
-{
-    let newer = later(q, p);
-    if newer {
-        return q;
-    }
-    p
-}
-
-// Is p the next serial of the same sitting? The last serial has no next.
-pub fn follows(p: Pair, q: Pair) -> bool
-    ensures { result ≡ same_pair p (next_pair q) }
-{
-    if p.serial <= q.serial {
-        return false;
-    }
-    if p.serial - q.serial != 1 {
-        return false;
-    }
-    p.sitting == q.sitting
 }

@@ -1,46 +1,27 @@
--- `front`: how long a report is, and what its front is where it is made, read and written.
+-- `front`: what the front of a report is where it is made and written.
 -- Assumes nothing.
-use Prim.Native.Nat.{ℕ, zero, ◌+◌, ◌*◌, ◌/◌, ◌%◌, ◌≤◌}
+use Prim.Native.Nat.{ℕ, zero, ◌/◌, ◌%◌, ◌≤◌}
 use mathlib.Core.Path.{◌≡◌, ap, ◌∙◌, subst}
 use mathlib.Core.List.{List, ◌++◌}
 use native.Mathlib.Omega.{arith}
-use lib.ListN.{length, get_or, drop, set}
-use lib.Count.{ones, ones-le}
-use mir.Syntax.{w32, w64}
-use mir.Val.{Fits}
+use lib.ListN.{length, drop, set}
 use Rattle.octets.specs.Part.{write}
-use Rattle.octets.specs.Number.{bytes4, four_at}
+use Rattle.octets.specs.Number.{bytes4}
 use Rattle.octets.proofs.PartLaws.{write_none}
-use Rattle.grid.specs.Record.{head_at, head_of, head_bytes, stamp_of, read_state}
+use Rattle.grid.specs.Record.{head_of, head_bytes, stamp_of, read_state}
 use Rattle.grid.specs.Facts.{Valid}
 use Rattle.grid.specs.declared.head.Head.{Head}
-use Rattle.grid.specs.Pair.{pair_at, pair_bytes}
+use Rattle.grid.specs.Pair.{pair_bytes}
 use Rattle.grid.specs.declared.head.Stamp.{Stamp}
-use Rattle.grid.specs.declared.pair.Pair.{Pair}
 use Rattle.grid.proofs.Record.{heads_eq}
 use Rattle.grid.proofs.Validity.{head_fits}
-use Rattle.report.specs.Layout.{REPORT-VERSION, KIND, REPORT-PAIR, MASK, HEAD, ROWS, ROW-SIZE, LONGEST}
+use Rattle.report.specs.Layout.{REPORT-VERSION, KIND, REPORT-PAIR, MASK, HEAD, ROWS, LONGEST}
 use Rattle.report.specs.declared.kind.Kind.{Kind}
 use Rattle.report.specs.declared.front.Front.{Front}
-use Rattle.report.specs.Kind.{kind_byte, kind_of, mask_of, rows_at, report_length}
-use Rattle.report.specs.Report.{front_of, report_front, read_front}
+use Rattle.report.specs.Kind.{kind_byte, mask_of, rows_at, report_length}
+use Rattle.report.specs.Report.{front_of, report_front}
 use Rattle.report.specs.Parts.{Fronts}
 use Rattle.report.proofs.KindLaws.{rows_at_kind, mask_small}
-
--- ---- its length
-
-module _ (kind : Kind) (mask : ℕ) (f : Fits w32 mask) where
-  most : ones mask ≤ 32
-  most = ones-le 32 mask f.fits
-
-  pub ones_fit : Fits w64 (ones mask)
-  ones_fit = record { fits = omega (arith, most) }
-
-  pub rows_fit : Fits w64 (ROW-SIZE * ones mask)
-  rows_fit = record { fits = omega (arith, most) }
-
-  pub length_fits : (n : ℕ) → n ≡ rows_at kind → Fits w64 (n + ROW-SIZE * ones mask)
-  length_fits n e = record { fits = omega (arith, most, rows_at_kind kind) }
 
 -- ---- the front of a record's report: s is the stamp read, h the head
 
@@ -55,12 +36,7 @@ front_made kind l s h mask v es eh em =
       fits = rw eh (head_fits (head_of l) v.screen.head);
     }
 
--- ---- read and written
-
-pub front_read : (b : List ℕ) (kind : Kind) (p : Pair) (mask : ℕ) (h : Head) → kind ≡ kind_of (get_or b KIND 0) → p ≡ pair_at b REPORT-PAIR
-    → mask ≡ four_at b MASK → h ≡ head_at b HEAD → record { kind = kind; pair = p; mask = mask; head = h } ≡ read_front b
-unfolding read_front
-front_read b kind p mask h ek ep em eh = λ i. record { kind = ek i; pair = ep i; mask = em i; head = eh i }
+-- ---- written
 
 -- n is the length, k the byte of the kind
 pub fronted : (l m₁ m₂ m₃ : List ℕ) (f : Front) (n k : ℕ) → n ≡ report_length f.kind f.mask → k ≡ kind_byte f.kind → LONGEST ≤ length l

@@ -4,7 +4,7 @@ use Prim.Native.Nat.{ℕ, ◌<◌}
 use mathlib.Core.Path.{◌≡◌, refl, sym}
 use mathlib.Core.Bool.{true}
 use native.Mathlib.Omega.{arith}
-use lib.Dec.{ltb, eqb}
+use lib.Dec.{eqb}
 use borrow.Author.Tests.{ltb-true, eqb-true, eq-eqb, ne_eqb}
 use Rattle.octets.proofs.Bools.{pick, skip}
 use Rattle.grid.specs.Layout.{MASKS}
@@ -44,11 +44,3 @@ pub mask_small : (k : Kind) (touched : ℕ) → touched < MASKS → mask_of k to
 unfolding mask_of
 mask_small Step touched h = h
 mask_small Full touched h = omega arith
-
-pub step_tested : (k : Kind) (mask : ℕ) → k ≡ Step → ltb mask MASKS ≡ mask_fits k mask
-unfolding mask_fits
-step_tested k mask e = rw e
-
-pub full_tested : (k : Kind) (mask : ℕ) → k ≡ Full → eqb mask ALL-ROWS ≡ mask_fits k mask
-unfolding mask_fits
-full_tested k mask e = rw e

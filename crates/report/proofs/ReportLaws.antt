@@ -1,7 +1,7 @@
 -- `report`: what the rows of a report leave in the output, and what the report calls answer.
 -- Assumes nothing.
 use Prim.Native.Nat.{ℕ, ◌+◌, ◌-◌, ◌*◌, ◌≤◌, ◌<◌}
-use mathlib.Core.Path.{◌≡◌, refl, sym, ap, ap₂, ◌∙◌}
+use mathlib.Core.Path.{◌≡◌, refl, sym, ap, ap₂, ◌∙◌, subst}
 use mathlib.Core.Bool.{Bool, true, false, not}
 use mathlib.Core.List.{List, [], ◌∷◌, ◌++◌, append_assoc, append-nil}
 use native.Mathlib.Numerals.{add-one}
@@ -14,17 +14,18 @@ use mir.Syntax.{w32}
 use mir.Val.{Fits}
 use borrow.Author.Tests.{not-true, not-false, leb-true}
 use Rattle.std.specs.Prelude.{if◌then◌else◌}
-use Rattle.octets.specs.Answer.{over, wrote, Writes}
+use Rattle.octets.specs.Answer.{refused, number_of, over, wrote, Writes}
+use Rattle.octets.specs.declared.answer.Refusal.{Refusal}
 use Rattle.octets.specs.Part.{write}
-use Rattle.octets.specs.Refusals.{first_of, refused_with}
+use Rattle.octets.specs.Refusals.{first_of}
 use Rattle.octets.proofs.Bools.{pick, skip}
-use Rattle.octets.proofs.Found.{refused_none, unless_refused, unless_done}
-use Rattle.octets.proofs.PartLaws.{write_none, write_append, cons_write, write_front}
+use Rattle.octets.proofs.Found.{unless_err, unless_ok}
+use Rattle.octets.proofs.PartLaws.{write_none, write_append, set_write, write_front}
 use Rattle.values.specs.Mask.{has_row}
 use Rattle.grid.specs.Layout.{SIZE}
 use Rattle.grid.specs.Screen.{Row, no_row, valid_row}
 use Rattle.grid.specs.Record.{row_of, rows_of, head_of, read_state, blocks}
-use Rattle.grid.specs.Facts.{HeadFits, Valid}
+use Rattle.grid.specs.Facts.{Valid}
 use Rattle.grid.specs.Refusals.{record_tests}
 use Rattle.grid.proofs.Record.{blocks_append}
 use Rattle.grid.proofs.RefusalLaws.{valid_known, lengths_known}
@@ -43,20 +44,21 @@ use Rattle.report.proofs.RoundTrips.{length_carried}
 
 -- ---- a row
 
-pub row_written : (l o m₁ m₂ : List ℕ) (r at flag : ℕ) → length l ≡ SIZE → r < 25 → flag ≡ (row_of l r).flag
-    → m₁ ≡ write o (at + 1) (take 80 (row_of l r).chars) → m₂ ≡ write m₁ (at + 1 + 80) (take 80 (row_of l r).attrs)
-    → set m₂ at flag ≡ write o at (row_bytes (row_of l r))
+pub row_written : (l o m₀ m₁ m₂ : List ℕ) (r at flag : ℕ) → length l ≡ SIZE → r < 25 → flag ≡ (row_of l r).flag → m₀ ≡ set o at flag
+    → m₁ ≡ write m₀ (at + 1) (take 80 (row_of l r).chars) → m₂ ≡ write m₁ (at + 1 + 80) (take 80 (row_of l r).attrs)
+    → m₂ ≡ write o at (row_bytes (row_of l r))
 unfolding row_bytes
-row_written l o m₁ m₂ r at flag len h ef e₁ e₂ =
+row_written l o m₀ m₁ m₂ r at flag len h ef e₀ e₁ e₂ =
     let x : Row = row_of l r in
     let full = full_row l r len h in
     let c : take 80 x.chars ≡ x.chars = take_all 80 x.chars (omega (arith, full.chars80)) in
     let a : take 80 x.attrs ≡ x.attrs = take_all 80 x.attrs (omega (arith, full.attrs80)) in
-    let p : m₁ ≡ write o (at + 1) x.chars = e₁ ∙ ap (write o (at + 1)) c in
-    let q : m₂ ≡ write o (at + 1) (x.chars ++ x.attrs) =
-    e₂ ∙ ap₂ (λ (m s : List ℕ). write m (at + 1 + 80) s) p a
-    ∙ ap (λ (k : ℕ). write (write o (at + 1) x.chars) (at + 1 + k) x.attrs) (sym full.chars80) ∙ write_append o (at + 1) x.chars x.attrs in
-    ap₂ (λ (m : List ℕ) (v : ℕ). set m at v) q ef ∙ cons_write o at x.flag (x.chars ++ x.attrs)
+    let o₀ : m₀ ≡ write o at (x.flag ∷ []) = e₀ ∙ ap (λ (v : ℕ). set o at v) ef ∙ set_write o at x.flag in
+    let o₁ : m₁ ≡ write o at (x.flag ∷ x.chars) =
+    e₁ ∙ ap₂ (λ (m s : List ℕ). write m (at + 1) s) o₀ c ∙ write_append o at (x.flag ∷ []) x.chars in
+    let n : at + 1 + 80 ≡ at + length (x.flag ∷ x.chars) = omega (arith, full.chars80) in
+    e₂ ∙ ap₂ (λ (m s : List ℕ). write m (at + 1 + 80) s) o₁ a ∙ ap (λ (k : ℕ). write (write o at (x.flag ∷ x.chars)) k x.attrs) n
+    ∙ write_append o at (x.flag ∷ x.chars) x.attrs
 
 row_carried : (x : Row) → carried_bytes (x ∷ []) ≡ row_bytes x
 unfolding blocks
@@ -150,21 +152,21 @@ module _ (kind : Kind) (l : List ℕ) (f : Front) (v : Valid l) (is : Fronts kin
   reported_is =
       ap (λ (g : Front). report_front g ++ carried_bytes (carry (bits 25 g.mask) (rows_of l))) (sym is.is ∙ refl)
 
-  pub length_reported : length (reported kind l) ≡ report_length kind mask
+  pub length_reported : length (reported kind l) ≡ report_length f.kind mask
   length_reported =
-      ap length reported_is ∙ (unfold report_front in omega (arith, carried_size, rows_at_kind kind))
+      ap length reported_is ∙ (unfold report_front in omega (arith, carried_size, rows_at_kind f.kind))
 
-  pub report_fits : (n : ℕ) → n ≡ report_length kind mask → Fits w32 n
-  report_fits n e = record { fits = omega (arith, few, rows_at_kind kind) }
+  pub report_fits : (n : ℕ) → n ≡ report_length f.kind mask → Fits w32 n
+  report_fits n e = record { fits = omega (arith, few, rows_at_kind f.kind) }
 
-  pub report_written : (o p n : List ℕ) (from : ℕ) → LONGEST ≤ length o → from ≡ rows_at kind → p ≡ report_front f ++ drop (rows_at f.kind) o
+  pub report_written : (o p n : List ℕ) (from : ℕ) → LONGEST ≤ length o → from ≡ rows_at f.kind → p ≡ report_front f ++ drop (rows_at f.kind) o
       → n ≡ write p from (carried_bytes (carry (bits 25 f.mask) (rows_of l))) → n ≡ over (reported kind l) o
   report_written o p n from len ef ep en =
       let F : List ℕ = report_front f in
       let D : List ℕ = drop ROWS o in
       let d : length D ≡ length o - ROWS = length-drop ROWS o in
       let k : length (reported kind l) ≡ ROWS + length carried = ap length reported_is ∙ (unfold report_front in omega arith) in
-      let start : from ≡ ROWS = ef ∙ rows_at_kind kind in
+      let start : from ≡ ROWS = ef ∙ rows_at_kind f.kind in
       let e₀ : n ≡ write p ROWS carried = en ∙ ap (λ (i : ℕ). write p i carried) start in
       let e₁ : n ≡ write (F ++ D) ROWS carried =
       e₀ ∙ ap (λ (x : List ℕ). write x ROWS carried) (ep ∙ ap (λ (i : ℕ). F ++ drop i o) (rows_at_kind f.kind)) in
@@ -176,36 +178,35 @@ module _ (kind : Kind) (l : List ℕ) (f : Front) (v : Valid l) (is : Fronts kin
       ∙ sym (append_assoc F carried (drop (length (reported kind l)) o))
       ∙ ap (λ (x : List ℕ). x ++ drop (length (reported kind l)) o) (sym reported_is)
 
--- ---- the report calls: k is what `record_refused` has answered
+-- ---- the report calls
 
-module _ (l o : List ℕ) (k : ℕ) (is : k ≡ refused_with (first_of (record_tests (leb LONGEST (length o)) l))) where
-  pub report_refused : (kind : Kind) → (k ≡ 0 → ⊥) → Writes (reporting kind l o) k o
+module _ (kind : Kind) (l o : List ℕ) where
+  pub report_refused : (e : Refusal) → number_of e ≡ first_of (record_tests (leb LONGEST (length o)) l) → Writes (reporting kind l o) (refused (number_of e)) o
   unfolding reporting
-  report_refused kind ne = unless_refused _ o _ k is ne
+  report_refused e is = unless_err _ o _ e is
 
-  module _ (zero : k ≡ 0) where
-    valid : Valid l
-    valid = valid_known (leb LONGEST (length o)) l k is zero
-
+  module _ (none : 0 ≡ first_of (record_tests (leb LONGEST (length o)) l)) where
     pub report_room : LONGEST ≤ length o
-    report_room = leb-true LONGEST (length o) (lengths_known (leb LONGEST (length o)) l k is zero)
+    report_room = leb-true LONGEST (length o) (lengths_known (leb LONGEST (length o)) l none)
 
-    pub rows_room : (kind : Kind) (p : List ℕ) (from : ℕ) → from ≡ rows_at kind → length p ≡ length o → from + ROW-SIZE * 25 ≤ length p
-    rows_room kind p from e s = omega (arith, rows_at_kind kind, report_room)
+    -- r is the same as a record, and f the front of its report
+    module _ (r : List ℕ) (same : r ≡ l) (f : Front) (i : Fronts kind r f) where
+      pub rows_room : (p : List ℕ) (from : ℕ) → from ≡ rows_at f.kind → length p ≡ length o → from + ROW-SIZE * 25 ≤ length p
+      rows_room p from e s = omega (arith, rows_at_kind f.kind, report_room)
 
-    pub front_fits : (kind : Kind) (f : Front) → Fronts kind l f → HeadFits f.head
-    front_fits kind f i = i.fits
+      pub length_small : (n : ℕ) → n ≡ report_length f.kind f.mask → Fits w32 n
+      length_small n e = report_fits kind r f (subst Valid (sym same) (valid_known _ l none)) i n e
 
-    pub length_small : (kind : Kind) (f : Front) (n : ℕ) → Fronts kind l f → n ≡ report_length kind f.mask → Fits w32 n
-    length_small kind f n i e = report_fits kind l f valid i n e
-
-    pub report_done : (kind : Kind) (f : Front) (from n : ℕ) (p m : List ℕ) → Fronts kind l f → from ≡ rows_at kind
-        → p ≡ report_front f ++ drop (rows_at f.kind) o → m ≡ write p from (carried_bytes (carry (bits 25 f.mask) (rows_of l)))
-        → n ≡ report_length kind f.mask → Writes (reporting kind l o) n m
-    unfolding reporting wrote
-    report_done kind f from n p m i ef ep em en =
-        unless_done _ o _ (refused_none _ (sym is ∙ zero)) n m
-        (record {
-          number = en ∙ sym (length_reported kind l f valid i);
-          left = report_written kind l f valid i o p m from report_room ef ep em;
-        })
+      pub report_done : (from n : ℕ) (p m : List ℕ) → from ≡ rows_at f.kind → p ≡ report_front f ++ drop (rows_at f.kind) o
+          → m ≡ write p from (carried_bytes (carry (bits 25 f.mask) (rows_of r))) → n ≡ report_length f.kind f.mask → Writes (reporting kind l o) n m
+      unfolding reporting wrote
+      report_done from n p m ef ep em en =
+          let v : Valid l = valid_known _ l none in
+          let j : Fronts kind l f = subst (λ (x : List ℕ). Fronts kind x f) same i in
+          let em' : m ≡ write p from (carried_bytes (carry (bits 25 f.mask) (rows_of l))) =
+          em ∙ ap (λ (x : List ℕ). write p from (carried_bytes (carry (bits 25 f.mask) (rows_of x)))) same in
+          unless_ok _ o _ none n m
+          (record {
+            number = en ∙ sym (length_reported kind l f v j);
+            left = report_written kind l f v j o p m from report_room ef ep em';
+          })

@@ -1,93 +1,60 @@
 // The test of an arriving slice, whatever it holds.
 //
 // As in `grid`, a loop over bytes has no early way out; between rows there is one.
-ghost use Rattle.std.specs.Prelude.{◌≡◌, ◌+◌, ◌*◌, ◌≤◌, length, drop};
-ghost use Rattle.octets.specs.Test.{every};
+ghost use Rattle.std.specs.Prelude.{◌≡◌, ◌≤◌, SomeIff, IsTrue, length, get_or};
+ghost use Rattle.std.specs.List.{list_all};
 ghost use Rattle.grid.specs.Screen.{valid_row};
-ghost use Rattle.report.specs.Layout.{ROWS, ROW-SIZE};
-ghost use Rattle.report.specs.Report.{read_front, row_in, carried_rows, frontb, reportb};
+ghost use Rattle.report.specs.Layout.{KIND, ROWS};
+ghost use Rattle.report.specs.Kind.{kind_byte};
+ghost use Rattle.report.specs.Report.{read_front, row_in, frontb, reportb};
 
-use crate::front::{Front, read_front, report_length};
-use crate::kind;
-use crate::layout::{KIND, REPORT_VERSION, ROW_SIZE, ROWS};
+use crate::front::Front;
+use crate::layout::{REPORT_VERSION, ROW_SIZE};
 use grid::layout::STRIDE;
 use grid::valid;
 use octets::number::two_at;
 use octets::zero;
 
-// Is the front f of the slice as the layout asks?
+// Is the front f of the slice, whose kind is the one told, as the layout asks?
+#[tactic(auto, using(crate::proofs::CheckLaws::front_told))]
 fn front_ok(b: &[u8], f: Front) -> bool
-    requires { (ROWS ≤ length b.now) × (f ≡ read_front b.now) }
+    requires { (ROWS ≤ length b.now) × (f ≡ read_front b.now) × (get_or b.now KIND 0 ≡ kind_byte f.kind) }
     ensures { result ≡ frontb b.now }
 {
-    let kind = f.kind;
-    if b.len() != report_length(kind, f.mask) {
-        return false;
-    }
-    if two_at(b, 0) != b.len() {
-        return false;
-    }
-    if b[2] != REPORT_VERSION {
-        return false;
-    }
-    if b[KIND] != kind::kind_byte(kind) {
-        return false;
-    }
-    kind::mask_ok(kind, f.mask)
+    b.len() == f.report_length()
+        && two_at(b, 0) == b.len()
+        && b[2] == REPORT_VERSION
+        && f.kind.mask_ok(f.mask)
 }
 
-// Is the row from index at on one of width w?
-fn row_ok(b: &[u8], at: usize, w: usize) -> bool
-    requires { (at + ROW-SIZE ≤ length b.now) × (w ≤ 80) }
-    ensures { result ≡ valid_row w (row_in b.now at) }
+// Is the row one of width w?
+#[tactic(auto, using(crate::proofs::CheckLaws::row_test))]
+fn row_ok(row: &[u8; ROW_SIZE], w: usize) -> bool
+    requires { w ≤ 80 }
+    ensures { result ≡ valid_row w (row_in row.now 0) }
 {
-    if b[at] > 1 {
-        return false;
-    }
-    if !valid::all_printable(b, at + 1, w) {
-        return false;
-    }
-    if !zero::all_zero(b, at + 1 + w, STRIDE - w) {
-        return false;
-    }
-    zero::all_zero(b, at + 1 + STRIDE + w, STRIDE - w)
+    row[0] <= 1
+        && valid::all_printable(row, 1, w)
+        && zero::all_zero(row, 1 + w, STRIDE - w)
+        && zero::all_zero(row, 1 + STRIDE + w, STRIDE - w)
 }
 
-// Are the n rows from index from on rows of width w?
-fn rows_ok(b: &[u8], from: usize, n: usize, w: usize) -> bool
-    requires { (length b.now ≡ from + ROW-SIZE * n) × (w ≤ 80) }
-    ensures { result ≡ every (valid_row w) (carried_rows n (drop from b.now)) }
+fn rows_ok(rows: &[[u8; ROW_SIZE]], w: usize) -> bool
+    requires { w ≤ 80 }
+    ensures { result ≡ list_all (λ row. valid_row w (row_in row 0)) rows.now }
 {
-    let mut i = 0;
-    while i < n {
-        if !row_ok(b, from + ROW_SIZE * i, w) {
-            return false;
-        }
-        i += 1;
-    }
-    true
+    rows.iter().all(|row| row_ok(row, w))
 }
 
-// Is the slice a report as the layout asks? Its rows are judged by its own width.
-pub fn report_ok(b: &[u8]) -> bool
-    ensures { result ≡ reportb b.now }
+// The front of the slice, if it is a report as the layout asks. Its rows are judged by its own width.
+#[tactic(auto, using(crate::proofs::KindLaws::rows_at_kind, crate::proofs::CheckLaws::told, crate::proofs::CheckLaws::front_passes, crate::proofs::CheckLaws::head_passes, crate::proofs::CheckLaws::head_width, crate::proofs::CheckLaws::found))]
+pub fn report(b: &[u8]) -> Option<Front>
+    ensures { SomeIff result (IsTrue (reportb b.now)) (read_front b.now) }
 {
-    if b.len() < ROWS {
-        return false;
+    let f = Front::read(b)?;
+    if !front_ok(b, f) || !valid::head_ok(f.head) {
+        return None;
     }
-    let f = read_front(b);
-    if !front_ok(b, f) {
-        return false;
-    }
-    let h = f.head;
-    if !valid::head_ok(h) {
-        return false;
-    }
-    let kind = f.kind;
-    rows_ok(
-        b,
-        kind::rows_at(kind),
-        u32::count_ones(f.mask) as usize,
-        h.width,
-    )
+    let (rows, _) = b[f.kind.rows_at()..].as_chunks::<ROW_SIZE>();
+    rows_ok(rows, f.head.width).then_some(f)
 }

@@ -1,15 +1,16 @@
 // The front of a report: what stands before its rows.
-ghost use Rattle.std.specs.Prelude.{◌≡◌, ◌++◌, ◌≤◌, length, drop};
+ghost use Rattle.std.specs.Prelude.{◌≡◌, ◌++◌, ◌≤◌, SomeIff, length, get_or, drop};
+ghost use Rattle.std.specs.Int.Count.{ones};
 ghost use Rattle.grid.specs.Facts.{HeadFits, Valid};
-ghost use Rattle.report.specs.Layout.{ROWS, LONGEST};
-ghost use Rattle.report.specs.Kind.{rows_at, report_length};
+ghost use Rattle.report.specs.Layout.{KIND, ROWS, LONGEST};
+ghost use Rattle.report.specs.Kind.{kind_byte, rows_at, report_length};
 ghost use Rattle.report.specs.Report.{report_front, read_front};
 ghost use Rattle.report.specs.Parts.{Fronts};
 
-use crate::kind;
 use crate::kind::Kind;
-use crate::layout::{HEAD, KIND, MASK, REPORT_PAIR, REPORT_VERSION, ROW_SIZE};
+use crate::layout::{HEAD, KIND, MASK, REPORT_PAIR, REPORT_VERSION, ROW_SIZE, ROWS};
 use grid::head::Head;
+use grid::layout::Record;
 use grid::pair::Pair;
 use grid::{head, pair};
 use octets::number;
@@ -22,54 +23,65 @@ pub struct Front {
     pub head: Head,
 }
 
-// What stands before the rows, and a row for each one in the mask: where a report is made, and where one is checked.
-pub fn report_length(kind: Kind, mask: u32) -> usize
-    ensures { result ≡ report_length kind mask }
-{
-    kind::rows_at(kind) + ROW_SIZE * (u32::count_ones(mask) as usize)
-}
-
-// The front of a report of a record.
-pub fn front_of(rec: &[u8], kind: Kind) -> Front
-    requires { Valid rec.now }
-    ensures { Fronts kind rec.now result }
-{
-    let stamp = head::read_stamp(rec);
-    let p = stamp.pair;
-    let h = head::read_head(rec);
-    Front {
-        kind: kind,
-        pair: p,
-        mask: kind::mask_of(kind, stamp.touched),
-        head: h,
+impl Front {
+    // The front of a report of a record.
+    pub fn of(rec: &Record, kind: Kind) -> Front
+        requires { Valid rec.now }
+        ensures { Fronts kind rec.now result }
+    {
+        let stamp = head::read_stamp(rec);
+        Front {
+            kind,
+            pair: stamp.pair,
+            mask: kind.mask_of(stamp.touched),
+            head: head::read_head(rec),
+        }
     }
-}
 
-pub fn read_front(b: &[u8]) -> Front
-    requires { ROWS ≤ length b.now }
-    ensures { result ≡ read_front b.now }
-{
-    Front {
-        kind: kind::kind_of(b[KIND]),
-        pair: pair::pair_at(b, REPORT_PAIR),
-        mask: number::four_at(b, MASK),
-        head: head::head_at(b, HEAD),
+    // That of a slice, if it is long enough and the byte of the kind is that of one.
+    #[tactic(auto, unfolding(crate::specs::Report::read_front))]
+    pub fn read(b: &[u8]) -> Option<Front>
+        ensures { SomeIff result ((ROWS ≤ length b.now) × (get_or b.now KIND 0 ≡ kind_byte (read_front b.now).kind)) (read_front b.now) }
+    {
+        if b.len() < ROWS {
+            return None;
+        }
+        Some(Front {
+            kind: Kind::try_from(b[KIND]).ok()?,
+            pair: pair::pair_at(b, REPORT_PAIR),
+            mask: number::four_at(b, MASK),
+            head: head::head_at(b, HEAD),
+        })
     }
-}
 
-pub fn write_front(out: &mut [u8], f: Front)
-    requires { (LONGEST ≤ length out.old) × HeadFits f.head }
-    ensures { out.new ≡ report_front f ++ drop (rows_at f.kind) out.old }
-{
-    let kind = f.kind;
-    let p = f.pair;
-    let h = f.head;
-    let n = report_length(kind, f.mask);
-    pair::put_pair(out, REPORT_PAIR, p);
-    number::put4(out, MASK, f.mask);
-    head::put_head(out, HEAD, h);
-    out[0] = (n / 256 % 256) as u8;
-    out[1] = (n % 256) as u8;
-    out[2] = REPORT_VERSION;
-    out[KIND] = kind::kind_byte(kind);
+    // How many rows follow it: one for each in the mask.
+    // Kept so: no `From` leads from u32 to usize or back, and the proof has it that the number fits.
+    pub fn rows(self) -> usize
+        ensures { (result ≡ ones self.mask) × (result ≤ 32) }
+    {
+        self.mask.count_ones() as usize
+    }
+
+    // How long the whole report is: where a report is made, and where one is checked.
+    #[tactic(auto, using(crate::proofs::KindLaws::rows_at_kind))]
+    pub fn report_length(self) -> usize
+        ensures { result ≡ report_length self.kind self.mask }
+    {
+        self.kind.rows_at() + ROW_SIZE * self.rows()
+    }
+
+    #[tactic(auto, using(crate::proofs::FrontLaws::fronted))]
+    pub fn write(self, out: &mut [u8])
+        requires { (LONGEST ≤ length out.old) × HeadFits self.head }
+        ensures { out.new ≡ report_front self ++ drop (rows_at self.kind) out.old }
+    {
+        let n = self.report_length();
+        pair::put_pair(out, REPORT_PAIR, self.pair);
+        number::put4(out, MASK, self.mask);
+        head::put_head(out, HEAD, self.head);
+        out[0] = (n / 256 % 256) as u8;
+        out[1] = (n % 256) as u8;
+        out[2] = REPORT_VERSION;
+        out[KIND] = u8::from(self.kind);
+    }
 }

@@ -1,11 +1,13 @@
 // The kinds of reports: the byte of each, the mask of its rows, and where its rows begin.
-ghost use Rattle.std.specs.Prelude.{◌≡◌};
+#![tactic(auto, unfolding(crate::specs::Kind::kind_byte, crate::specs::Kind::kind_of, crate::specs::Kind::mask_of, crate::specs::Kind::mask_fits, crate::specs::Kind::rows_at))]
+
+ghost use Rattle.std.specs.Prelude.{◌≡◌, OkIff};
 ghost use Rattle.report.specs.Kind.{kind_of, kind_byte, mask_of, mask_fits, rows_at};
 
 use crate::layout::{ALL_ROWS, FULL, ROWS, STEP};
 use grid::layout::MASKS;
 
-#[derive(Clone, Copy)]
+#[derive(Clone, Copy, PartialEq, Eq)]
 pub enum Kind {
     // The rows that the last call touched.
     Step,
@@ -13,50 +15,62 @@ pub enum Kind {
     Full,
 }
 
-// The kind of a byte; a byte of none is taken for a step's, and `kind_byte` then tells that it is not.
-pub fn kind_of(byte: u8) -> Kind
-    ensures { result ≡ kind_of byte }
-{
-    if byte == FULL {
-        return Kind::Full;
-    }
-    Kind::Step
-}
+// A byte that is the byte of no kind.
+#[derive(Clone, Copy, PartialEq, Eq)]
+pub struct NoKind;
 
-pub fn kind_byte(kind: Kind) -> u8
-    ensures { result ≡ kind_byte kind }
-{
-    match kind {
-        Kind::Step => STEP,
-        Kind::Full => FULL,
-    }
-}
+impl TryFrom<u8> for Kind {
+    type Error = NoKind;
 
-// A step's mask is the touched rows, a full one's is that of all rows.
-pub fn mask_of(kind: Kind, touched: u32) -> u32
-    ensures { result ≡ mask_of kind touched }
-{
-    match kind {
-        Kind::Step => touched,
-        Kind::Full => ALL_ROWS,
+    ghost try_from_gives = { λ byte r. OkIff r (byte ≡ kind_byte (kind_of byte)) (kind_of byte) };
+
+    fn try_from(byte: u8) -> Result<Kind, NoKind> {
+        match byte {
+            STEP => Ok(Kind::Step),
+            FULL => Ok(Kind::Full),
+            _ => Err(NoKind),
+        }
     }
 }
 
-pub fn mask_ok(kind: Kind, mask: u32) -> bool
-    ensures { result ≡ mask_fits kind mask }
-{
-    match kind {
-        Kind::Step => mask < MASKS,
-        Kind::Full => mask == ALL_ROWS,
+impl From<Kind> for u8 {
+    ghost from_gives = { λ kind byte. byte ≡ kind_byte kind };
+
+    fn from(kind: Kind) -> u8 {
+        match kind {
+            Kind::Step => STEP,
+            Kind::Full => FULL,
+        }
     }
 }
 
-// Where the rows of a report begin.
-pub fn rows_at(kind: Kind) -> usize
-    ensures { result ≡ rows_at kind }
-{
-    match kind {
-        Kind::Step => ROWS,
-        Kind::Full => ROWS,
+impl Kind {
+    // A step's mask is the touched rows, a full one's is that of all rows.
+    pub fn mask_of(self, touched: u32) -> u32
+        ensures { result ≡ mask_of self touched }
+    {
+        match self {
+            Kind::Step => touched,
+            Kind::Full => ALL_ROWS,
+        }
+    }
+
+    pub fn mask_ok(self, mask: u32) -> bool
+        ensures { result ≡ mask_fits self mask }
+    {
+        match self {
+            Kind::Step => mask < MASKS,
+            Kind::Full => mask == ALL_ROWS,
+        }
+    }
+
+    // Where the rows of a report begin.
+    pub fn rows_at(self) -> usize
+        ensures { result ≡ rows_at self }
+    {
+        match self {
+            Kind::Step => ROWS,
+            Kind::Full => ROWS,
+        }
     }
 }

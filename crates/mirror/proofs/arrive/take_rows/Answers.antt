@@ -7,7 +7,7 @@ pub loop-r-init : goal.loop-r-init
 loop-r-init c = search (rules, take_start)
 
 pub take_row-at-requires : goal.take_row-at-requires
-take_row-at-requires c = (search rules, search rules, search (rules, room_known))
+take_row-at-requires c = (search rules, search (rules, room_known))
 
 pub loop-r-preserved : goal.loop-r-preserved
 loop-r-preserved c = search (rules, take_turn)

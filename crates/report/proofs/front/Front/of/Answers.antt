@@ -1,7 +1,7 @@
--- `report::front::front_of` meets its contract.
+-- `report::front::Front::of` meets its contract.
 use Rattle.std.proofs.Common.{rules}
 use Rattle.report.proofs.FrontLaws.{front_made}
-use Rattle.report.proofs.front.front_of.Goals as goal
+use Rattle.report.proofs.front.Front.of.Goals as goal
 
 pub returns : goal.returns
 returns c = search (rules, front_made)
