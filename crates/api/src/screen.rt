@@ -4,58 +4,59 @@ ghost use Rattle.editor.specs.Outcome.{creating, asking, texting, AskWidth, AskC
 ghost use Rattle.octets.specs.Answer.{Writes};
 
 use calls::fresh;
+use octets::answer::{done, number};
 use queries::{reading, text};
 
 pub fn screen_new(rec: &mut [u8], width: u32, sitting: u32) -> u32
     ensures { Writes (creating width sitting rec.old) result rec.new }
 {
-    fresh::new_screen(rec, width, sitting)
+    done(fresh::new_screen(rec, width, sitting))
 }
 
 pub fn screen_width(rec: &[u8]) -> u32
     ensures { result ≡ asking AskWidth rec.now }
 {
-    reading::width(rec)
+    number(reading::width(rec))
 }
 
 pub fn screen_cursor(rec: &[u8]) -> u32
     ensures { result ≡ asking AskCursor rec.now }
 {
-    reading::cursor(rec)
+    number(reading::cursor(rec))
 }
 
 pub fn screen_attr(rec: &[u8]) -> u32
     ensures { result ≡ asking AskAttr rec.now }
 {
-    reading::attr(rec)
+    number(reading::attr(rec))
 }
 
 pub fn screen_editable_rows(rec: &[u8]) -> u32
     ensures { result ≡ asking AskEditableRows rec.now }
 {
-    reading::editable_rows(rec)
+    number(reading::editable_rows(rec))
 }
 
 pub fn screen_cell(rec: &[u8], row: u32, col: u32) -> u32
     ensures { result ≡ asking (AskCell row col) rec.now }
 {
-    reading::cell(rec, row, col)
+    number(reading::cell(rec, row, col))
 }
 
 pub fn screen_continues(rec: &[u8], row: u32) -> u32
     ensures { result ≡ asking (AskContinues row) rec.now }
 {
-    reading::continues(rec, row)
+    number(reading::continues(rec, row))
 }
 
 pub fn screen_logical_text(rec: &[u8], out: &mut [u8]) -> u32
     ensures { Writes (texting LogicalText rec.now out.old) result out.new }
 {
-    text::logical_text(rec, out)
+    number(text::logical_text(rec, out))
 }
 
 pub fn screen_snapshot(rec: &[u8], out: &mut [u8]) -> u32
     ensures { Writes (texting Snapshot rec.now out.old) result out.new }
 {
-    text::snapshot(rec, out)
+    number(text::snapshot(rec, out))
 }

@@ -1,67 +1,109 @@
 // The recorded calls, done again: which call a tag is, as docs/RECORDING.md lists them.
-ghost use Rattle.std.specs.Prelude.{◌≡◌, length};
-ghost use Rattle.replay.specs.Entry.{HEAD};
-
-use crate::entry;
+use crate::entry::Head;
 use calls::{fresh, lines, modes, motion, print, tab, typing, words};
-use octets::number::four_at;
+use octets::answer;
 
-// What no call answers: there is none with this tag.
-pub const NO_CALL: u32 = 4294967295;
+#[derive(Clone, Copy)]
+pub enum Call {
+    New,
+    PrintBytes,
+    TypeChar,
+    Backspace,
+    DeleteChar,
+    EraseToEnd,
+    EscapeLine,
+    Tab,
+    CtrlEnter,
+    TakeLogicalLine,
+    BreakLine,
+    MoveLeft,
+    MoveRight,
+    MoveUp,
+    MoveDown,
+    Home,
+    WordLeft,
+    WordRight,
+    EndOfLine,
+    Clear,
+    SetWidth,
+    SetCursor,
+    SetInsert,
+    SetAttr,
+    SetKeysOn,
+    PrintChecked,
+}
 
-fn edit(tag: u8, ch: u32, rec: &mut [u8], input: &[u8], out: &mut [u8]) -> u32 {
-    match tag {
-        1 => print::print_bytes(rec, input),
-        2 => typing::type_char(rec, ch),
-        3 => typing::backspace(rec),
-        4 => typing::delete_char(rec),
-        5 => typing::erase_to_end(rec),
-        6 => lines::escape_line(rec),
-        7 => tab::tab(rec),
-        8 => lines::ctrl_enter(rec),
-        9 => lines::take_logical_line(rec, out),
-        10 => lines::break_line(rec),
-        25 => print::print_checked(rec, input),
-        _ => NO_CALL,
+// A tag that is none.
+#[derive(Clone, Copy)]
+pub struct NoCall;
+
+impl TryFrom<u8> for Call {
+    type Error = NoCall;
+
+    fn try_from(tag: u8) -> Result<Call, NoCall> {
+        Ok(match tag {
+            0 => Call::New,
+            1 => Call::PrintBytes,
+            2 => Call::TypeChar,
+            3 => Call::Backspace,
+            4 => Call::DeleteChar,
+            5 => Call::EraseToEnd,
+            6 => Call::EscapeLine,
+            7 => Call::Tab,
+            8 => Call::CtrlEnter,
+            9 => Call::TakeLogicalLine,
+            10 => Call::BreakLine,
+            11 => Call::MoveLeft,
+            12 => Call::MoveRight,
+            13 => Call::MoveUp,
+            14 => Call::MoveDown,
+            15 => Call::Home,
+            16 => Call::WordLeft,
+            17 => Call::WordRight,
+            18 => Call::EndOfLine,
+            19 => Call::Clear,
+            20 => Call::SetWidth,
+            21 => Call::SetCursor,
+            22 => Call::SetInsert,
+            23 => Call::SetAttr,
+            24 => Call::SetKeysOn,
+            25 => Call::PrintChecked,
+            _ => return Err(NoCall),
+        })
     }
 }
 
-fn move_cursor(tag: u8, rec: &mut [u8]) -> u32 {
-    match tag {
-        11 => motion::move_left(rec),
-        12 => motion::move_right(rec),
-        13 => motion::move_up(rec),
-        14 => motion::move_down(rec),
-        15 => motion::home(rec),
-        16 => words::word_left(rec),
-        17 => words::word_right(rec),
-        18 => motion::end_of_line(rec),
-        _ => NO_CALL,
-    }
-}
-
-fn set_up(tag: u8, first: u32, second: u32, rec: &mut [u8]) -> u32 {
-    match tag {
-        0 => fresh::new_screen(rec, first, second),
-        19 => modes::clear(rec),
-        20 => modes::set_width(rec, first),
-        21 => motion::set_cursor(rec, first, second),
-        22 => modes::set_insert(rec, first),
-        23 => modes::set_attr(rec, first),
-        24 => modes::set_keys_on(rec, first),
-        _ => NO_CALL,
-    }
-}
-
-// Does the call of this entry, and answers what it answers.
-pub fn call(head: &[u8], input: &[u8], rec: &mut [u8], out: &mut [u8]) -> u32
-    requires { length head.now ≡ HEAD }
-{
-    let tag = head[entry::TAG];
-    let first = four_at(head, entry::FIRST);
-    match tag {
-        1..=10 | 25 => edit(tag, first, rec, input, out),
-        11..=18 => move_cursor(tag, rec),
-        _ => set_up(tag, first, four_at(head, entry::SECOND), rec),
+impl Call {
+    // Does the call with the arguments of this head and this input, and answers what it answers.
+    pub fn again(self, head: &Head, input: &[u8], rec: &mut [u8], out: &mut [u8]) -> u32 {
+        let answered = match self {
+            Call::New => fresh::new_screen(rec, head.first, head.second),
+            Call::PrintBytes => print::print_bytes(rec, input),
+            Call::TypeChar => typing::type_char(rec, head.first),
+            Call::Backspace => typing::backspace(rec),
+            Call::DeleteChar => typing::delete_char(rec),
+            Call::EraseToEnd => typing::erase_to_end(rec),
+            Call::EscapeLine => lines::escape_line(rec),
+            Call::Tab => tab::tab(rec),
+            Call::CtrlEnter => lines::ctrl_enter(rec),
+            Call::TakeLogicalLine => return answer::number(lines::take_logical_line(rec, out)),
+            Call::BreakLine => lines::break_line(rec),
+            Call::MoveLeft => motion::move_left(rec),
+            Call::MoveRight => motion::move_right(rec),
+            Call::MoveUp => motion::move_up(rec),
+            Call::MoveDown => motion::move_down(rec),
+            Call::Home => motion::home(rec),
+            Call::WordLeft => words::word_left(rec),
+            Call::WordRight => words::word_right(rec),
+            Call::EndOfLine => motion::end_of_line(rec),
+            Call::Clear => modes::clear(rec),
+            Call::SetWidth => modes::set_width(rec, head.first),
+            Call::SetCursor => motion::set_cursor(rec, head.first, head.second),
+            Call::SetInsert => modes::set_insert(rec, head.first),
+            Call::SetAttr => modes::set_attr(rec, head.first),
+            Call::SetKeysOn => modes::set_keys_on(rec, head.first),
+            Call::PrintChecked => print::print_checked(rec, input),
+        };
+        answer::done(answered)
     }
 }

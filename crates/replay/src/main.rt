@@ -5,13 +5,10 @@
 mod again;
 mod entry;
 
-ghost use Rattle.std.specs.Prelude.{◌≤◌, ◌≡◌, length};
-ghost use Rattle.replay.specs.Entry.{HEAD, LONGEST-INPUT, LONGEST-BODY};
-
-use entry::{HEAD, LONGEST_BODY, LONGEST_INPUT};
-use grid::layout::SIZE;
+use again::Call;
+use entry::{HEAD, Head, LONGEST_INPUT};
+use grid::layout::{Record, SIZE};
 use line::text::MAX_LOGICAL;
-use octets::number::four_at;
 use std::fs::File;
 use std::io::Read;
 use std::{env, io};
@@ -19,124 +16,103 @@ use std::{env, io};
 // More than any file has: by it the loop over the entries ends.
 const MOST_CALLS: u64 = 1000000000;
 
-// What an entry was found to be.
-#[derive(Drop)]
-enum Found {
-    // The file ends before it.
+// What a call did.
+#[derive(Clone, Copy)]
+enum Did {
+    AsRecorded,
+    Differs,
+    // Its tag is none.
+    NoCall,
+}
+
+// Why there is no next call.
+#[derive(Clone, Copy)]
+enum Stop {
+    // The file ends before its entry.
     End,
     // The file ends in the middle of it.
     Cut,
     // Its input is longer than an input may be.
     TooLong,
-    // Its tag is none.
-    NoCall,
-    // The call did not do what was recorded.
-    Differs,
-    AsRecorded,
 }
 
-#[derive(Drop)]
+// Where a read fails the file is taken to end.
+impl From<io::Error> for Stop {
+    fn from(_error: io::Error) -> Stop {
+        Stop::Cut
+    }
+}
+
+#[derive(Clone, Copy)]
 struct Tally {
     calls: u64,
     differ: u64,
     no_call: u64,
-    last: Found,
+    stop: Option<Stop>,
 }
 
-// Does the call of an entry again. The input is the first n of the body's bytes, and the text the next ones, up to end.
-fn redo(head: &[u8], body: &[u8], n: usize, end: usize, rec: &mut [u8]) -> Found
-    requires head_len { length head.now ≡ HEAD }
-    requires body_len { length body.now ≡ LONGEST-BODY }
-    requires n_bound { n ≤ LONGEST-INPUT }
-    requires end_bound { end ≤ LONGEST-BODY }
-{
-    let mut space = [0u8; MAX_LOGICAL];
-    let out: &mut [u8] = &mut space;
-    let answer = again::call(head, &body[0..n], rec, out);
-    if answer == again::NO_CALL {
-        return Found::NoCall;
+// Does the call of an entry again. Behind the text there are only zeros, in the entry as in out.
+fn redo(head: &Head, input: &[u8], text: &[u8; MAX_LOGICAL], rec: &mut Record) -> Did {
+    let Ok(call) = Call::try_from(head.tag) else {
+        return Did::NoCall;
+    };
+    let mut out = [0u8; MAX_LOGICAL];
+    let answer = call.again(head, input, rec, &mut out);
+    if answer == head.answer
+        && out == *text
+        && entry::digest(head, input, text, rec) == head.digest
+    {
+        Did::AsRecorded
+    } else {
+        Did::Differs
     }
-    if answer != four_at(head, entry::ANSWER) {
-        return Found::Differs;
-    }
-    // Behind the text there are only zeros, in the body as in out.
-    if &body[n..n + MAX_LOGICAL] != out {
-        return Found::Differs;
-    }
-    if entry::digest(head, &body[0..end], rec) != four_at(head, entry::DIGEST) {
-        return Found::Differs;
-    }
-    Found::AsRecorded
-}
-
-// Reads until buf is full, the input ends or a read fails, and answers how many bytes it put at the start of buf.
-fn read_full(input: &mut impl Read, buf: &mut [u8]) -> usize
-    ensures { result ≤ length buf.new }
-{
-    let mut done = 0;
-    while done < buf.len() {
-        match input.read(&mut buf[done..]) {
-            Ok(0) | Err(_) => break,
-            Ok(n) => done += n,
-        }
-    }
-    done
 }
 
 // Reads the next entry and does its call.
-fn turn(input: &mut impl Read, rec: &mut [u8]) -> Found {
-    let mut head = [0u8; HEAD];
-    let got = read_full(input, &mut head);
-    if got == 0 {
-        return Found::End;
+fn turn(file: &mut impl Read, rec: &mut Record) -> Result<Did, Stop> {
+    let mut bytes = [0u8; HEAD];
+    let got = match file.read(&mut bytes) {
+        Ok(0) | Err(_) => return Err(Stop::End),
+        Ok(n) => n,
+    };
+    file.read_exact(&mut bytes[got..])?;
+    let head = Head::read(bytes);
+    if head.input_length > LONGEST_INPUT {
+        return Err(Stop::TooLong);
     }
-    if got < HEAD {
-        return Found::Cut;
-    }
-    let n = entry::input_length(&head);
-    if n > LONGEST_INPUT {
-        return Found::TooLong;
-    }
-    let end = n + entry::text_length(&head);
-    let mut space = [0u8; LONGEST_BODY];
-    let body: &mut [u8] = &mut space;
-    if read_full(input, &mut body[0..end]) < end {
-        return Found::Cut;
-    }
-    redo(&head, body, n, end, rec)
+    let mut space = [0u8; LONGEST_INPUT];
+    let input = &mut space[..head.input_length];
+    file.read_exact(input)?;
+    let mut text = [0u8; MAX_LOGICAL];
+    file.read_exact(&mut text[..usize::from(head.text_length)])?;
+    Ok(redo(&head, input, &text, rec))
 }
 
 // Does the calls of the file, to its end or to an entry whose end is not known. One with a tag that is none counts as a call that differs.
-fn replay(input: &mut impl Read) -> Tally {
-    let mut space = [0u8; SIZE];
-    let rec: &mut [u8] = &mut space;
-    let mut calls: u64 = 0;
-    let mut differ: u64 = 0;
-    let mut no_call: u64 = 0;
-    let mut last = Found::AsRecorded;
-    while calls < MOST_CALLS {
-        last = turn(input, rec);
-        match last {
-            Found::AsRecorded => {}
-            Found::Differs => {
-                differ += 1;
+fn replay(file: &mut impl Read) -> Tally {
+    let mut rec: Record = [0; SIZE];
+    let mut tally = Tally {
+        calls: 0,
+        differ: 0,
+        no_call: 0,
+        stop: None,
+    };
+    for _ in 0..MOST_CALLS {
+        match turn(file, &mut rec) {
+            Ok(Did::AsRecorded) => {}
+            Ok(Did::Differs) => tally.differ += 1,
+            Ok(Did::NoCall) => {
+                tally.differ += 1;
+                tally.no_call += 1;
             }
-            Found::NoCall => {
-                differ += 1;
-                no_call += 1;
-            }
-            _ => {
+            Err(stop) => {
+                tally.stop = Some(stop);
                 break;
             }
         }
-        calls += 1;
+        tally.calls += 1;
     }
-    Tally {
-        calls: calls,
-        differ: differ,
-        no_call: no_call,
-        last: last,
-    }
+    tally
 }
 
 fn report(rt: &impl Print, t: Tally) -> io::Result<()> {
@@ -144,10 +120,10 @@ fn report(rt: &impl Print, t: Tally) -> io::Result<()> {
     if t.no_call > 0 {
         println!(rt; "{} with a tag that is none", t.no_call)?;
     }
-    match t.last {
-        Found::Cut => println!(rt; "the file ends in the middle of an entry"),
-        Found::TooLong => println!(rt; "the next entry has too long an input"),
-        _ => Ok(()),
+    match t.stop {
+        Some(Stop::Cut) => println!(rt; "the file ends in the middle of an entry"),
+        Some(Stop::TooLong) => println!(rt; "the next entry has too long an input"),
+        Some(Stop::End) | None => Ok(()),
     }
 }
 
