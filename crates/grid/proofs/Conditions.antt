@@ -11,7 +11,8 @@ use lib.ListN.{length, get_or, take, drop}
 use borrow.Author.Tests.{leb-true, eqb-true, le-leb, eq-eqb}
 use Rattle.octets.specs.Part.{window}
 use Rattle.octets.specs.Test.{every, zerob}
-use Rattle.octets.proofs.Bools.{fails, or_cases, or_left, or_right, every_at, at_every}
+use Rattle.std.proofs.lemmas.Bool.{or_cases, or_left, or_right}
+use Rattle.octets.proofs.Bools.{fails, every_at, at_every}
 use Rattle.octets.proofs.PartLaws.{length_window, take_window, drop_window}
 use Rattle.octets.proofs.ZeroLaws.{part_at, at_part}
 use Rattle.grid.specs.Layout.{SIZE, FLAGS, CHARS, ATTRS}

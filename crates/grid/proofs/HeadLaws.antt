@@ -8,7 +8,7 @@ use native.Mathlib.Nat.{mod-eq_of_lt}
 use lib.Bits.{bit_and, bit_or, and_mask, or_shifted}
 use lib.ListN.{length, get_or, drop, set}
 use Rattle.octets.specs.Part.{write}
-use Rattle.octets.specs.Number.{bytes4}
+use Rattle.octets.specs.Number.{bytes2, bytes4}
 use Rattle.octets.proofs.PartLaws.{write_none, write_more, set_write}
 use Rattle.values.specs.Cursor.{at}
 use Rattle.values.specs.Attr.{attr_of, byte_of}
@@ -76,13 +76,13 @@ headed l a byte bits h eb es =
     rw (eb, es) e₆
 
 -- `write_front`
-pub fronted : (l m₁ m₂ m₃ : List ℕ) (h : Head) (s : Stamp) → length l ≡ SIZE → m₁ ≡ write l PAIR (pair_bytes s.pair)
-    → m₂ ≡ write m₁ TOUCHED (bytes4 s.touched) → m₃ ≡ write m₂ HEAD (head_bytes h)
-    → set (set (set m₃ 0 (SIZE / 256)) 1 (SIZE % 256)) 2 VERSION ≡ front_bytes h s ++ drop FLAGS l
+pub fronted : (l m₁ m₂ m₃ m₄ : List ℕ) (h : Head) (s : Stamp) → length l ≡ SIZE → m₁ ≡ write l PAIR (pair_bytes s.pair)
+    → m₂ ≡ write m₁ TOUCHED (bytes4 s.touched) → m₃ ≡ write m₂ HEAD (head_bytes h) → m₄ ≡ write m₃ 0 (bytes2 SIZE)
+    → set m₄ 2 VERSION ≡ front_bytes h s ++ drop FLAGS l
 unfolding write front_bytes
-fronted l m₁ m₂ m₃ h s len e₁ e₂ e₃ =
-    rw (e₃, e₂, e₁)
+fronted l m₁ m₂ m₃ m₄ h s len e₁ e₂ e₃ e₄ =
+    rw (e₄, e₃, e₂, e₁)
     (subst
-    (λ (z : List ℕ). set (set (set (write (write (write z PAIR (pair_bytes s.pair)) TOUCHED (bytes4 s.touched)) HEAD (head_bytes h)) 0 (SIZE / 256)) 1 (SIZE % 256)) 2 VERSION ≡ front_bytes h s ++ drop FLAGS l)
+    (λ (z : List ℕ). set (write (write (write (write z PAIR (pair_bytes s.pair)) TOUCHED (bytes4 s.touched)) HEAD (head_bytes h)) 0 (bytes2 SIZE)) 2 VERSION ≡ front_bytes h s ++ drop FLAGS l)
     (heads_eq FLAGS 0 l (omega arith))
     (rw (write_none (drop FLAGS l) zero)))

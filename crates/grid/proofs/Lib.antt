@@ -14,3 +14,4 @@ pub mod PairLaws
 pub mod Bytes
 pub mod FreshLaws
 pub mod RefusalLaws
+pub mod ScreenLaws

@@ -2,25 +2,15 @@
 -- Assumes nothing.
 use mathlib.Core.Path.{◌≡◌, sym, ap, ◌∙◌}
 use mathlib.Core.List.{List, ◌++◌}
-use Prim.Native.Nat.{ℕ, zero, suc, ◌+◌, ◌-◌, ◌≤◌}
+use Prim.Native.Nat.{ℕ, zero, ◌+◌, ◌-◌, ◌≤◌}
 use native.Mathlib.Omega.{arith}
-use lib.ListN.{length, drop, replicate, length-append, length-replicate}
+use lib.ListN.{length, replicate, length-append, length-replicate}
 use lib.Seq.{drop-append-le}
+use Rattle.std.proofs.lemmas.List.{drop-replicate}
 use Rattle.grid.specs.Screen.{padded, spaced}
-use Rattle.octets.specs.Part.{window, write}
-use Rattle.octets.proofs.PartLaws.{length_window, write_append, write_front, write_write}
+use Rattle.octets.specs.Part.{write}
+use Rattle.octets.proofs.PartLaws.{write_append, write_front, write_write}
 use Rattle.grid.proofs.RowLaws.{length_padded}
-
-pub drop_replicate : (k n v : ℕ) → drop k (replicate n v) ≡ replicate (n - k) v
-drop_replicate zero n v =
-    let e : n - 0 ≡ n = omega arith in
-    rw e
-drop_replicate (suc k) zero v =
-    let e : 0 - suc k ≡ 0 = omega arith in
-    rw e
-drop_replicate (suc k) (suc n) v =
-    let e : suc n - suc k ≡ n - k = omega arith in
-    rw e (drop_replicate k n v)
 
 -- a text written over spaces
 text_padded : (w : ℕ) (s : List ℕ) → length s ≤ w → w ≤ 80
@@ -31,15 +21,13 @@ text_padded w s h k =
     let y : List ℕ = replicate w 32 in
     let n : length y ≡ w = length-replicate w 32 in
     write_front (y ++ z) s (simp length-append (omega arith))
-    ∙ ap (λ (r : List ℕ). s ++ r) (drop-append-le (length s) y z (omega arith) ∙ ap (λ (r : List ℕ). r ++ z) (drop_replicate (length s) w 32))
+    ∙ ap (λ (r : List ℕ). s ++ r) (drop-append-le (length s) y z (omega arith) ∙ ap (λ (r : List ℕ). r ++ z) (drop-replicate (length s) w 32))
 
-pub text_written : (l src m₁ m₂ : List ℕ) (at w from n : ℕ) → w ≤ 80 → n ≤ w → from + n ≤ length src
-    → m₁ ≡ write l at (padded w 32) → m₂ ≡ write m₁ at (window src from n) → m₂ ≡ write l at (spaced w (window src from n))
-text_written l src m₁ m₂ at w from n k hn hs e₁ e₂ =
-    let s : List ℕ = window src from n in
-    let q : length s ≡ n = length_window src from n hs in
+pub text_written : (l text m₁ m₂ : List ℕ) (at w : ℕ) → w ≤ 80 → length text ≤ w
+    → m₁ ≡ write l at (padded w 32) → m₂ ≡ write m₁ at text → m₂ ≡ write l at (spaced w text)
+text_written l text m₁ m₂ at w k h e₁ e₂ =
     let p : length (padded w 32) ≡ 80 = length_padded w 32 k in
-    e₂ ∙ ap (λ (m : List ℕ). write m at s) e₁ ∙ write_write l at (padded w 32) s (omega arith) ∙ ap (write l at) (text_padded w s (omega arith) k)
+    e₂ ∙ ap (λ (m : List ℕ). write m at text) e₁ ∙ write_write l at (padded w 32) text (omega arith) ∙ ap (write l at) (text_padded w text h k)
 
 pub padded_write : (l m₂ m₃ : List ℕ) (at w v : ℕ) → m₂ ≡ write l at (replicate w v) → m₃ ≡ write m₂ (at + w) (replicate (80 - w) 0)
     → m₃ ≡ write l at (padded w v)

@@ -11,7 +11,8 @@ use lib.ListN.{length}
 use borrow.Author.Tests.{eq-eqb, ne_eqb, eqb-true, eqb-false}
 use Rattle.std.specs.Prelude.{if◌then◌else◌}
 use Rattle.octets.specs.Refusals.{order, place_in, first_of, all_pass}
-use Rattle.octets.proofs.Bools.{and_left, and_right, and_false, left_false, and_cases}
+use Rattle.std.proofs.lemmas.Bool.{and_cases}
+use Rattle.octets.proofs.Bools.{and_left, and_right, and_false, left_false}
 use Rattle.octets.proofs.Found.{First, Fails, none_first, ordered, none_fails}
 use Rattle.octets.proofs.Found.Fails.{here, there}
 use Rattle.octets.proofs.Found.First.{now, later}

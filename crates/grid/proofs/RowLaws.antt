@@ -1,20 +1,21 @@
 -- The laws of `row_of`, `rows_of` and `put_row`: all that a crate above has to know of where a row's bytes lie.
 -- Assumes nothing.
-use mathlib.Core.Path.{◌≡◌, sym, ap, ◌∙◌}
+use mathlib.Core.Path.{◌≡◌, refl, sym, ap, ◌∙◌}
 use mathlib.Core.List.{List, []}
 use mathlib.Core.Logic.{◌≢◌, ◌⊎◌, inl, inr, ⊎_elim}
 use Prim.Native.Nat.{ℕ, ◌+◌, ◌*◌, ◌-◌, ◌≤◌, ◌<◌}
 use native.Mathlib.Decide.{ℕ_discrete, dec_lt}
 use native.Mathlib.Omega.{arith}
 use lib.ListN.{length, get_or, take, drop, set, length-set, length-append, length-replicate}
-use lib.Seq.{ext_get_or, get_or-set_same, get_or-set_other, take-set-le, take-take}
+use lib.Seq.{ext_get_or, get_or-set_same, get_or-set_other, take-set-le}
+use Rattle.std.specs.Array.{IsWholeChunk}
 use Rattle.grid.specs.Layout.{SIZE, FLAGS, CHARS, ATTRS}
 use Rattle.values.specs.declared.attr.Attr.{Attr}
 use Rattle.grid.specs.Screen.{Row, padded, spaced, blank_row, line_row, put_cell, flag_row}
 use Rattle.values.specs.Attr.{byte_of}
 use Rattle.octets.specs.Part.{window, write}
-use Rattle.grid.specs.Record.{row_of, row_from, rows_of, Becomes}
-use Rattle.octets.proofs.PartLaws.{length_window, get_d_window, window_set_after, window_set_before, window_set_in, length_write, take_write, get_d_write_before, window_write_before, window_write_after, window_write_same}
+use Rattle.grid.specs.Record.{row_of, rows_of, Becomes}
+use Rattle.octets.proofs.PartLaws.{part_window, length_window, get_d_window, window_set_after, window_set_before, window_set_in, length_write, take_write, get_d_write_before, window_write_before, window_write_after, window_write_same}
 use Rattle.octets.proofs.Tables.{length_tabulate, get_d_tabulate}
 
 -- ---- the rows
@@ -30,27 +31,14 @@ pub get_d_rows : (l : List ℕ) (r : ℕ) (d : Row) → r < 25 → get_or (rows_
 unfolding rows_of
 get_d_rows l r d h = get_d_tabulate (row_of l) 25 r d h
 
-pub get_d_chars : (l : List ℕ) (r c : ℕ) → c < 80 → get_or (row_of l r).chars c 0 ≡ get_or l (CHARS + 80 * r + c) 0
-unfolding row_of
-get_d_chars l r c h = get_d_window l (CHARS + 80 * r) 80 c h
-
--- `char_at`, `attr_at`
+-- a character and an attribute of a row are bytes of the record
 pub char_read : (l : List ℕ) (r c : ℕ) → c < 80 → get_or l (CHARS + 80 * r + c) 0 ≡ get_or (row_of l r).chars c 0
-char_read l r c h = sym (get_d_chars l r c h)
+unfolding row_of
+char_read l r c h = sym (get_d_window l (CHARS + 80 * r) 80 c h)
 
 pub attr_read : (l : List ℕ) (r c : ℕ) → c < 80 → get_or l (ATTRS + 80 * r + c) 0 ≡ get_or (row_of l r).attrs c 0
 unfolding row_of
 attr_read l r c h = sym (get_d_window l (ATTRS + 80 * r) 80 c h)
-
--- `copy_chars`: the first n characters of a row
-pub chars_window : (l : List ℕ) (r n at : ℕ) (o m : List ℕ) → n ≤ 80 → m ≡ write o at (window l (CHARS + 80 * r) n) → m ≡ write o at (take n (row_of l r).chars)
-unfolding row_of window
-chars_window l r n at o m h e = e ∙ ap (write o at) (sym (take-take n 80 (drop (CHARS + 80 * r) l) h))
-
--- `copy_attrs`
-pub attrs_window : (l : List ℕ) (r n at : ℕ) (o m : List ℕ) → n ≤ 80 → m ≡ write o at (window l (ATTRS + 80 * r) n) → m ≡ write o at (take n (row_of l r).attrs)
-unfolding row_of window
-attrs_window l r n at o m h e = e ∙ ap (write o at) (sym (take-take n 80 (drop (ATTRS + 80 * r) l) h))
 
 -- one row is x, and the others are as they were
 pub rows_set : (l l' : List ℕ) (r : ℕ) (x : Row) → r < 25 → row_of l' r ≡ x
@@ -169,29 +157,18 @@ full_line w attr f s h k =
     record { chars80 = simp (length-append, length-replicate) (omega arith); attrs80 = length_padded w (byte_of attr) k }
 
 module _ (l : List ℕ) (len : length l ≡ SIZE) where
-  pub copied : (old m₁ m₂ : List ℕ) (src dst : ℕ) → length old ≡ SIZE → src < 25 → dst < 25
-      → m₁ ≡ write l (CHARS + 80 * dst) (window old (CHARS + 80 * src) 80) → m₂ ≡ write m₁ (ATTRS + 80 * dst) (window old (ATTRS + 80 * src) 80)
-      → Becomes l (set m₂ (FLAGS + dst) (get_or old (FLAGS + src) 0)) (set (rows_of l) dst (row_of old src))
-  unfolding row_of put_row
-  copied old m₁ m₂ src dst lo hs hd e₁ e₂ = rw (e₂, e₁) (put_becomes l dst (row_of old src) len hd (full_row old src lo hs))
-
   -- `put_row`
-  pub row_put : (src m₁ m₂ : List ℕ) (r f chars attrs : ℕ) → r < 25 → chars + 80 ≤ length src → attrs + 80 ≤ length src
-      → m₁ ≡ write l (CHARS + 80 * r) (window src chars 80) → m₂ ≡ write m₁ (ATTRS + 80 * r) (window src attrs 80)
-      → Becomes l (set m₂ (FLAGS + r) f) (set (rows_of l) r (row_from f src chars attrs))
-  unfolding row_from put_row
-  row_put src m₁ m₂ r f chars attrs h hc ha e₁ e₂ =
-      rw (e₂, e₁)
-      (put_becomes l r (row_from f src chars attrs) len h
-      (record { chars80 = length_window src chars 80 hc; attrs80 = length_window src attrs 80 ha }))
+  pub row_put : (x : Row) (cs as' m₁ m₂ : List ℕ) (r f : ℕ) → r < 25 → f ≡ x.flag → cs ≡ x.chars → as' ≡ x.attrs → length x.chars ≡ 80 → length x.attrs ≡ 80
+      → m₁ ≡ write l (CHARS + 80 * r) cs → m₂ ≡ write m₁ (ATTRS + 80 * r) as' → Becomes l (set m₂ (FLAGS + r) f) (set (rows_of l) r x)
+  unfolding put_row
+  row_put x cs as' m₁ m₂ r f h ef ec ea nc na e₁ e₂ = rw (e₂, e₁, ef, ec, ea) (put_becomes l r x len h (record { chars80 = nc; attrs80 = na }))
 
-  pub lined : (text m₁ m₂ : List ℕ) (r w byte f from n : ℕ) (attr : Attr) → byte ≡ byte_of attr → r < 25 → w ≤ 80 → n ≤ w → from + n ≤ length text
-      → m₁ ≡ write l (CHARS + 80 * r) (spaced w (window text from n)) → m₂ ≡ write m₁ (ATTRS + 80 * r) (padded w byte)
-      → Becomes l (set m₂ (FLAGS + r) f) (set (rows_of l) r (line_row w attr f (window text from n)))
+  pub lined : (text m₁ m₂ : List ℕ) (r w byte f : ℕ) (attr : Attr) → byte ≡ byte_of attr → r < 25 → w ≤ 80 → length text ≤ w
+      → m₁ ≡ write l (CHARS + 80 * r) (spaced w text) → m₂ ≡ write m₁ (ATTRS + 80 * r) (padded w byte)
+      → Becomes l (set m₂ (FLAGS + r) f) (set (rows_of l) r (line_row w attr f text))
   unfolding put_row line_row
-  lined text m₁ m₂ r w byte f from n attr eb h k hn ht e₁ e₂ =
-      let q : length (window text from n) ≡ n = length_window text from n ht in
-      rw (e₂, e₁, eb) (put_becomes l r (line_row w attr f (window text from n)) len h (full_line w attr f (window text from n) (omega arith) k))
+  lined text m₁ m₂ r w byte f attr eb h k hn e₁ e₂ =
+      rw (e₂, e₁, eb) (put_becomes l r (line_row w attr f text) len h (full_line w attr f text hn k))
 
 -- a blank row is the line row of no characters
 pub blank_is : (w : ℕ) (attr : Attr) → line_row w attr 0 [] ≡ blank_row w attr
@@ -201,9 +178,8 @@ blank_is w attr =
     rw e
 
 -- `blank_row`
-pub blanked : (l m : List ℕ) (r w : ℕ) (attr : Attr) → Becomes l m (set (rows_of l) r (line_row w attr 0 (window [] 0 0)))
+pub blanked : (l m : List ℕ) (r w : ℕ) (attr : Attr) → Becomes l m (set (rows_of l) r (line_row w attr 0 []))
     → Becomes l m (set (rows_of l) r (blank_row w attr))
-unfolding window
 blanked l m r w attr p = rw blank_is at p
 
 -- `put_cell`
@@ -259,9 +235,9 @@ flag_set l r f len h =
           (window_set_after l (FLAGS + r) f (ATTRS + 80 * q) 80 (omega arith)));
     }
 
--- `text_length`: the first w characters, as the code reads them
-pub first_chars : (l : List ℕ) (r w : ℕ) → w ≤ 80 → take (CHARS + 80 * r + w - (CHARS + 80 * r)) (drop (CHARS + 80 * r) l) ≡ take w (row_of l r).chars
-unfolding row_of window
-first_chars l r w wide =
-    let n : CHARS + 80 * r + w - (CHARS + 80 * r) ≡ w = omega arith in
-    rw n (sym (take-take w 80 (drop (CHARS + 80 * r) l) wide))
+-- `Row::of`: the 80 bytes from an index on, as the code reads them
+pub row_seen : (l : List ℕ) (r c a : ℕ) (cs as' : List ℕ) → c ≡ CHARS + 80 * r → a ≡ ATTRS + 80 * r
+    → IsWholeChunk (take (c + 80 - c) (drop c l)) cs 80 → IsWholeChunk (take (a + 80 - a) (drop a l)) as' 80
+    → ◌≡◌ {A = Row} (record { flag = get_or l (FLAGS + r) 0; chars = cs; attrs = as' }) (row_of l r)
+unfolding row_of
+row_seen l r c a cs as' ec ea x y = row_eq _ _ refl (rw ec at (x.same ∙ part_window l c 80)) (rw ea at (y.same ∙ part_window l a 80))

@@ -1,13 +1,13 @@
 -- `touched`: the rows that differ, and their mask.
 -- Assumes nothing.
-use Prim.Native.Nat.{ℕ, zero, suc, ◌+◌, ◌-◌, ◌*◌, ◌^◌, ◌<◌, ◌≤◌}
+use Prim.Native.Nat.{ℕ, zero, suc, ◌+◌, ◌*◌, ◌^◌, ◌<◌, ◌≤◌}
 use mathlib.Core.Path.{◌≡◌, refl, sym, ap, ◌∙◌, subst}
 use mathlib.Core.Bool.{Bool, true, false, not, ◌&&◌, and-true}
 use mathlib.Core.List.{List, [], ◌∷◌, ◌++◌}
 use native.Mathlib.Nat.{pow-suc, not-suc-le-zero, le_of_suc-le-suc}
 use native.Mathlib.Numerals.{add-one}
 use native.Mathlib.Omega.{arith}
-use lib.ListN.{length, get_or, take, drop}
+use lib.ListN.{length, get_or, take}
 use lib.Seq.{take-suc, take_all, length-take-le}
 use borrow.Author.Tests.{eq-eqb}
 use lib.Dec.{eqb}
@@ -16,8 +16,6 @@ use Rattle.grid.specs.Screen.{Row, number, same_row, differing, touched_rows, sa
 use Rattle.grid.specs.Record.{row_of, rows_of}
 use Rattle.octets.proofs.Bools.{and_both}
 use Rattle.grid.proofs.RowLaws.{length_rows, get_d_rows}
-use Rattle.octets.specs.Part.{window}
-use Rattle.octets.proofs.PartLaws.{length_window, part_window}
 use Rattle.std.proofs.Math.Bool.{and_assoc}
 use Rattle.std.specs.List.{fold, zip}
 
@@ -87,19 +85,24 @@ module _ (a b : List ℕ) where
         ∙ ap (λ (x : Row). not (same_row x (get_or (rows_of b) r d))) (get_d_rows a r d h) ∙ ap (λ (x : Row). not (same_row (row_of a r) x)) (get_d_rows b r d h) in
         ap (λ (i : ℕ). take i bs) (add-one r) ∙ take-suc bs r false (omega (arith, size)) ∙ ap (λ (x : Bool). take r bs ++ (x ∷ [])) g
 
-    pub row_kept : same_row (row_of a r) (row_of b r) ≡ true → mask ≡ changed_to a b (r + 1)
-    unfolding changed_to
-    row_kept is =
-        let bs : List Bool = take r (differing (rows_of a) (rows_of b)) in
-        e ∙ sym (ap number (one_more ∙ ap (λ (t : Bool). bs ++ (not t ∷ [])) is) ∙ number_kept bs)
+    -- x and y are the two rows, and t says whether they are the same
+    module _ (x y : Row) (t : Bool) (ex : x ≡ row_of a r) (ey : y ≡ row_of b r) (et : t ≡ same_row x y) where
+      told : same_row (row_of a r) (row_of b r) ≡ t
+      told = rw (← ex, ← ey) (sym et)
 
-    pub row_marked : (m : ℕ) → same_row (row_of a r) (row_of b r) ≡ false → WithRow mask r m → m ≡ changed_to a b (r + 1)
-    unfolding changed_to
-    row_marked m is w =
-        let bs : List Bool = take r (differing (rows_of a) (rows_of b)) in
-        let k : length bs ≡ r = length-take-le r (differing (rows_of a) (rows_of b)) (omega (arith, size)) in
-        w.sum (changed_lt mask r (omega arith) (unfold changed_to in e)) ∙ ap (λ (x : ℕ). x + 2 ^ r) e ∙ ap (λ (x : ℕ). number bs + 2 ^ x) (sym k)
-        ∙ sym (ap number (one_more ∙ ap (λ (t : Bool). bs ++ (not t ∷ [])) is) ∙ number_new bs)
+      pub row_kept : t ≡ true → mask ≡ changed_to a b (r + 1)
+      unfolding changed_to
+      row_kept is =
+          let bs : List Bool = take r (differing (rows_of a) (rows_of b)) in
+          e ∙ sym (ap number (one_more ∙ ap (λ (u : Bool). bs ++ (not u ∷ [])) (told ∙ is)) ∙ number_kept bs)
+
+      pub row_marked : (m : ℕ) → t ≡ false → WithRow mask r m → m ≡ changed_to a b (r + 1)
+      unfolding changed_to
+      row_marked m is w =
+          let bs : List Bool = take r (differing (rows_of a) (rows_of b)) in
+          let k : length bs ≡ r = length-take-le r (differing (rows_of a) (rows_of b)) (omega (arith, size)) in
+          w.sum (changed_lt mask r (omega arith) (unfold changed_to in e)) ∙ ap (λ (x : ℕ). x + 2 ^ r) e ∙ ap (λ (x : ℕ). number bs + 2 ^ x) (sym k)
+          ∙ sym (ap number (one_more ∙ ap (λ (u : Bool). bs ++ (not u ∷ [])) (told ∙ is)) ∙ number_new bs)
 
   pub changed_end : (mask r : ℕ) → r ≤ 25 → 25 ≤ r → mask ≡ changed_to a b r → mask ≡ touched_rows (rows_of a) (rows_of b)
   unfolding touched_rows changed_to
@@ -119,7 +122,7 @@ unfolding touched_rows differing number
 touched_none [] = refl
 touched_none (x ∷ rows) = rw (row_itself x) (ap (λ (n : ℕ). 2 * n) (unfold touched_rows in touched_none rows))
 
--- two parts, as `part_same` looks at all of their bytes
+-- as many bytes, as `alike` looks at all of them
 fold_same : (b : Bool) (xs ys : List ℕ) → length xs ≡ length ys
     → fold (λ (all : Bool) (p : ℕ × ℕ). all && eqb p.0 p.1) b (zip xs ys) ≡ b && same xs ys
 unfolding same
@@ -128,9 +131,6 @@ fold_same b [] (y ∷ ys) h = absurd (omega arith)
 fold_same b (x ∷ xs) [] h = absurd (omega arith)
 fold_same b (x ∷ xs) (y ∷ ys) h = fold_same (b && eqb x y) xs ys (omega arith) ∙ and_assoc b (eqb x y) (same xs ys)
 
-pub parts_same : (l m : List ℕ) (a : ℕ) (t : Bool) → a + 80 ≤ length l → a + 80 ≤ length m
-    → t ≡ fold (λ (all : Bool) (p : ℕ × ℕ). all && eqb p.0 p.1) true (zip (take (a + 80 - a) (drop a l)) (take (a + 80 - a) (drop a m)))
-    → t ≡ same (window l a 80) (window m a 80)
-parts_same l m a t h k e =
-    (rw (part_window l a 80, part_window m a 80) at e)
-    ∙ fold_same true (window l a 80) (window m a 80) (length_window l a 80 h ∙ sym (length_window m a 80 k))
+pub bytes_same : (xs ys cs ds : List ℕ) (t : Bool) → length xs ≡ length ys → xs ≡ cs → ys ≡ ds
+    → t ≡ fold (λ (all : Bool) (p : ℕ × ℕ). all && eqb p.0 p.1) true (zip xs ys) → t ≡ same cs ds
+bytes_same xs ys cs ds t h ec ed e = rw (← ec, ← ed) (e ∙ fold_same true xs ys h)

@@ -2,71 +2,48 @@
 -- The premises of a law here are what the code has at hand in that place: the `requires`, the tests on the way, what callees ensure, and the
 -- invariant. So a proof says `search (rules, LAW)` and names no path: antt finds the premises among the fields of `c`.
 -- Assumes nothing.
-use Prim.Native.Nat.{ℕ, ◌+◌, ◌-◌, ◌*◌, ◌<◌, ◌≤◌}
+use Prim.Native.Nat.{ℕ, ◌-◌, ◌<◌}
 use mathlib.Core.Path.{◌≡◌, refl, sym, ap, ◌∙◌}
 use mathlib.Core.Bool.{Bool, true, false, ◌&&◌, not}
 use mathlib.Core.Bool
 use mathlib.Core.List.{List}
 use mathlib.Core.Logic.{⊎_elim}
 use native.Mathlib.Omega.{arith}
-use lib.Dec.{leb}
-use lib.ListN.{length, get_or, take}
-use lib.Seq.{take-suc, take_all}
-use borrow.Author.Tests.{eq-eqb, ne_eqb, not-true, not-false}
-use native.Mathlib.Numerals.{add-one}
-use Rattle.grid.specs.Layout.{SIZE, CHARS, ATTRS}
+use lib.Dec.{eqb, leb, ltb}
+use lib.ListN.{length, get_or, take, drop, length-drop}
+use lib.Seq.{take_all}
+use borrow.Author.Tests.{eq-eqb, ne_eqb, not-false}
+use Rattle.grid.specs.Layout.{SIZE, VERSION, MASKS}
 use Rattle.octets.specs.Test.{every, zerob}
-use Rattle.grid.specs.Screen.{printable, valid_head, valid_row, valid_screen}
+use Rattle.grid.specs.Screen.{Row, printable, valid_head, valid_row, valid_screen}
 use Rattle.std.proofs.Math.Bool.{and_assoc}
-use Rattle.octets.specs.Part.{window}
-use Rattle.grid.specs.Record.{row_of, rows_of, head_of, frontb, validb}
+use Rattle.std.specs.List.{list_all, range_with_len}
+use Rattle.grid.specs.Record.{row_of, rows_of, head_of, touched_of, frontb, validb}
 use Rattle.grid.specs.declared.head.Head.{Head}
-use Rattle.octets.proofs.Bools.{every_not, every_snoc}
-use Rattle.octets.proofs.PartLaws.{drop_window, take_window}
-use Rattle.grid.proofs.RowLaws.{full_row, length_rows, get_d_rows}
+use Rattle.octets.specs.Number.{number2}
+use Rattle.octets.specs.Table.{tabulate}
+use Rattle.octets.proofs.NumberLaws.{two_tested}
+use Rattle.grid.proofs.RowLaws.{length_rows}
 use Rattle.grid.proofs.Validity.{head_facts}
 
 -- ---- a row
 
-module _ (l : List ℕ) (r w : ℕ) (len : length l ≡ SIZE) (below : r < 25) (wide : w ≤ 80) where
-  -- the parts of a row that the code looks at
-  pub row_test : valid_row w (row_of l r)
-      ≡ leb (row_of l r).flag 1 && every printable (window l (CHARS + 80 * r) w) && every zerob (window l (CHARS + 80 * r + w) (80 - w))
-      && every zerob (window l (ATTRS + 80 * r + w) (80 - w))
-  unfolding valid_row row_of
-  row_test =
-      let full = full_row l r len below in
-      rw (
-        eq-eqb (length (window l (CHARS + 80 * r) 80)) 80 full.chars80,
-        eq-eqb (length (window l (ATTRS + 80 * r) 80)) 80 full.attrs80,
-        take_window l (CHARS + 80 * r) w 80 wide,
-        drop_window l (CHARS + 80 * r) w 80,
-        drop_window l (ATTRS + 80 * r) w 80,
-      )
+-- what is behind the first w of 80 bytes
+rest80 : (l : List ℕ) (w : ℕ) → length l ≡ 80 → take (80 - w) (drop w l) ≡ drop w l
+rest80 l w n = take_all (80 - w) (drop w l) (rw length-drop (omega arith))
 
--- ---- the rows: w is their width, and t what `row_ok` has answered
+-- the parts of a row that the code looks at: its characters and its attributes, 80 of each
+pub row_test : (x : Row) (w : ℕ) (cs as' : List ℕ) (t : Bool) → (cs ≡ x.chars) × (length x.chars ≡ 80) → (as' ≡ x.attrs) × (length x.attrs ≡ 80)
+    → t ≡ leb x.flag 1 && every printable (take w cs) && every zerob (take (80 - w) (drop w cs)) && every zerob (take (80 - w) (drop w as')) → t ≡ valid_row w x
+unfolding valid_row
+row_test x w cs as' t c a e =
+    rw (eq-eqb (length x.chars) 80 c.1, eq-eqb (length x.attrs) 80 a.1, ← (rest80 x.chars w c.1), ← (rest80 x.attrs w a.1), ← c.0, ← a.0) e
 
-module _ (l : List ℕ) (w : ℕ) where
-  pub row_found : (r : ℕ) (t : Bool) → r < 25 → t ≡ valid_row w (row_of l r) → not t ≡ true → false ≡ every (valid_row w) (rows_of l)
-  row_found r t h is n =
-      sym
-      (every_not (valid_row w) (rows_of l) r (row_of l r) (omega (arith, length_rows l))
-      (ap (valid_row w) (get_d_rows l r (row_of l r) h) ∙ sym is ∙ not-true t n))
+-- ---- the rows, of w columns
 
-  pub rows_start : every (valid_row w) (take 0 (rows_of l)) ≡ true
-  unfolding every
-  rows_start = refl
-
-  pub rows_turn : (r : ℕ) (t : Bool) → r < 25 → every (valid_row w) (take r (rows_of l)) ≡ true → t ≡ valid_row w (row_of l r) → not t ≡ false
-      → every (valid_row w) (take (r + 1) (rows_of l)) ≡ true
-  rows_turn r t h all is n =
-      ap (λ (i : ℕ). every (valid_row w) (take i (rows_of l))) (add-one r)
-      ∙ ap (every (valid_row w)) (take-suc (rows_of l) r (row_of l r) (omega (arith, length_rows l)))
-      ∙ every_snoc (valid_row w) (take r (rows_of l)) (get_or (rows_of l) r (row_of l r))
-      ∙ rw (all, get_d_rows l r (row_of l r) h) (sym is ∙ not-false t n)
-
-  pub rows_end : (r : ℕ) → 25 ≤ r → every (valid_row w) (take r (rows_of l)) ≡ true → true ≡ every (valid_row w) (rows_of l)
-  rows_end r h all = sym (ap (every (valid_row w)) (sym (take_all r (rows_of l) (omega (arith, length_rows l)))) ∙ all)
+pub rows_tested : (l : List ℕ) (w : ℕ) → list_all (λ (r : ℕ). valid_row w (row_of l r)) (range_with_len 0 25) ≡ every (valid_row w) (rows_of l)
+unfolding rows_of every tabulate
+rows_tested l w = refl
 
 -- ---- the record
 
@@ -85,6 +62,12 @@ head_bad l e = simp (e, Bool.and-false)
 pub length_bad : (l : List ℕ) → (length l ≡ SIZE → ⊥) → validb l ≡ false
 unfolding validb
 length_bad l h = rw (ne_eqb (length l) SIZE h)
+
+-- `front_ok`: the length field is looked at as one number, of two bytes
+pub front_tested : (l : List ℕ) → get_or l 1 0 < 256
+    → frontb l ≡ eqb (number2 (get_or l 0 0) (get_or l 1 0)) SIZE && eqb (get_or l 2 0) VERSION && ltb (touched_of l) MASKS
+unfolding frontb
+front_tested l h = rw (two_tested (get_or l 0 0) (get_or l 1 0) SIZE h) refl
 
 -- t and f are what `head_ok` and `front_ok` have answered, of a record that is not narrow
 pub wide_done : (l : List ℕ) (h : Head) (t f r : Bool) → length l ≡ SIZE → h ≡ head_of l → t ≡ valid_head h → not t ≡ false → f ≡ frontb l → not f ≡ false

@@ -6,7 +6,7 @@ use Rattle.grid.specs.Layout.{SIZE, VERSION, MASKS, SERIALS}
 use Rattle.grid.specs.Screen.{Row, Screen, State, printable, editable, valid_row, valid_screen}
 use Rattle.octets.specs.Test.{every, zerob}
 use Rattle.octets.specs.Width.{IsWidth}
-use Rattle.grid.specs.Record.{touched_of, screen_of}
+use Rattle.grid.specs.Record.{rows_of, touched_of, screen_of}
 use Rattle.grid.specs.declared.head.Head.{Head}
 use Rattle.grid.specs.declared.pair.Pair.{Pair}
 
@@ -69,3 +69,9 @@ pub record Valid (l : List ℕ) : Type 0 where
   pub version : get_or l 2 0 ≡ VERSION
   pub touched : touched_of l < MASKS
   pub screen : ScreenFacts (screen_of l)
+
+-- the record l has the rows of a valid screen whose head is h: its own, or the one that a call will leave
+pub record Known (l : List ℕ) (h : Head) : Type 0 where
+  pub size : length l ≡ SIZE
+  pub facts : HeadFacts h
+  pub rows : RowsFacts h.width 25 (rows_of l)

@@ -39,8 +39,12 @@ head_at l i = record {
 unfoldable pub head_of : List ℕ → Head
 head_of l = head_at l HEAD
 
+-- the screen of a head and a record's rows
+abbrev pub screen_with : Head → List ℕ → Screen
+screen_with h l = record { head = h; rows = rows_of l }
+
 abbrev pub screen_of : List ℕ → Screen
-screen_of l = record { head = head_of l; rows = rows_of l }
+screen_of l = screen_with (head_of l) l
 
 unfoldable pub pair_of : List ℕ → Pair
 pair_of l = pair_at l PAIR
@@ -113,7 +117,7 @@ pub record Leaves (s : Screen) (l l' : List ℕ) (h : Head) : Type 0 where
   pub becomes : Becomes l l' s.rows
   pub head : h ≡ s.head
 
--- the same where no row changes
-pub record Moves (s : Screen) (l : List ℕ) (h : Head) : Type 0 where
-  pub rows : s.rows ≡ rows_of l
-  pub head : h ≡ s.head
+-- the same where no row changes: the screen s becomes t
+pub record Moves (t s : Screen) (h : Head) : Type 0 where
+  pub rows : t.rows ≡ s.rows
+  pub head : h ≡ t.head

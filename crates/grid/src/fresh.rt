@@ -5,6 +5,7 @@ ghost use Rattle.grid.specs.Record.{state_bytes};
 
 use crate::layout::{Record, SCREEN_ROWS};
 use crate::pair::Pair;
+use crate::row::Blank;
 use crate::{head, row};
 use values::attr::Attr;
 use values::cursor::Cursor;
@@ -29,7 +30,11 @@ pub fn new_screen(rec: &mut Record, width: u32, sitting: u32)
     ensures { rec.new ≡ state_bytes (new_state width sitting) }
 {
     let h = new_head(width);
-    row::blank_rows(rec, SCREEN_ROWS, h.width, Attr::NORMAL);
+    let blank = Blank {
+        width: h.width,
+        attr: Attr::NORMAL,
+    };
+    row::blank_rows(rec, SCREEN_ROWS, blank);
     let stamp = head::Stamp {
         pair: Pair { sitting, serial: 0 },
         touched: 0,

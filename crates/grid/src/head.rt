@@ -13,11 +13,13 @@ use octets::number;
 use values::attr::Attr;
 use values::cursor::Cursor;
 
+// Kept so: `width`, `cr` and `keys` are numbers, since a head is read of any bytes, also of a broken record that holds another number there, which the test of
+// the layout must see.
 #[derive(Clone, Copy, PartialEq, Eq)]
 pub struct Head {
     pub width: usize,
     pub cursor: Cursor,
-    // Kept so: a head is read of any bytes, also of a broken record that holds 2 here, which the test of the layout must see.
+    // Kept so: a number, as `with_insert` takes any, and a bool would ask more of who calls. It is read as one bit, so it is 0 or 1 in a head that was read.
     pub insert: u8,
     // Document 02, (l): that a print ended with 13; 0 or 1 in a valid record.
     pub cr: u8,
@@ -107,6 +109,8 @@ fn bits_byte(insert: u8, cr: u8) -> u8
 }
 
 // Writes the head h there.
+// Kept so: `HeadFits` stands at each function that writes a head, and is no ghost field of it: `with_width` and `with_cursor` take any number. And the numbers
+// are cast: no `From` leads from usize to u8, and `try_from` would have a case that never comes.
 #[tactic(auto, using(crate::proofs::HeadLaws::headed))]
 pub fn put_head(dst: &mut [u8], at: usize, h: Head)
     requires { (at + 6 ≤ length dst.old) × HeadFits h }
@@ -152,6 +156,7 @@ pub fn read_stamp(rec: &Record) -> Stamp
 }
 
 // Writes what stands before the rows.
+// Kept so: the fronts of a mirror and of a report begin alike, with length and version, in two lines each, and go on with other fields.
 #[tactic(auto, using(crate::proofs::HeadLaws::fronted))]
 pub fn write_front(rec: &mut Record, h: Head, stamp: Stamp)
     requires { HeadFits h }
@@ -160,7 +165,6 @@ pub fn write_front(rec: &mut Record, h: Head, stamp: Stamp)
     pair::put_pair(rec, PAIR, stamp.pair);
     number::put4(rec, TOUCHED, stamp.touched);
     put_head(rec, HEAD, h);
-    rec[0] = (SIZE / 256) as u8;
-    rec[1] = (SIZE % 256) as u8;
+    number::put2(rec, 0, SIZE);
     rec[2] = VERSION;
 }

@@ -14,5 +14,6 @@ mod pad;
 pub mod pair;
 pub mod refusal;
 pub mod row;
+pub mod screen;
 pub mod touched;
 pub mod valid;

@@ -1,16 +1,13 @@
 // The test of a record's layout.
-//
-// A test of bytes looks at all of them, with no early way out, so that it is compiled to vector instructions.
-ghost use Rattle.std.specs.Prelude.{true, ◌&&◌, ◌≡◌, ◌+◌, ◌≤◌, ◌<◌, length};
-ghost use Rattle.std.specs.List.{fold};
+ghost use Rattle.std.specs.Prelude.{◌≡◌, ◌≤◌, ◌<◌};
 ghost use Rattle.grid.specs.Screen.{printable, valid_attr, valid_head, valid_row};
 ghost use Rattle.octets.specs.Test.{every};
-ghost use Rattle.octets.specs.Part.{window};
 ghost use Rattle.grid.specs.Record.{row_of, rows_of, frontb, validb};
 
-use crate::layout::{ATTRS, CHARS, MASKS, Record, SCREEN_ROWS, SIZE, STRIDE, VERSION};
-use crate::{head, row};
-use octets::{width, zero};
+use crate::head;
+use crate::layout::{MASKS, Record, SCREEN_ROWS, SIZE, VERSION};
+use crate::row::Row;
+use octets::{number, width, zero};
 use values::attr::Attr;
 
 // May a cell hold the character c?
@@ -21,31 +18,23 @@ pub fn is_printable(c: u8) -> bool
     c == 27 || c >= 32
 }
 
-fn printables(bytes: &[u8]) -> bool
-    ensures { result ≡ fold (λ all c. all && printable c) true bytes.now }
+// Are the bytes characters that a cell may hold?
+pub fn all_printable(bytes: &[u8]) -> bool
+    ensures { result ≡ every printable bytes.now }
 {
-    bytes.iter().fold(true, |all, c| all & is_printable(*c))
+    zero::all_pass(bytes, is_printable)
 }
 
-// Are the n bytes from index at on characters that a cell may hold?
-#[tactic(auto, using(octets::proofs::PartLaws::part_window, octets::proofs::ZeroLaws::every_passes))]
-pub fn all_printable(rec: &[u8], at: usize, n: usize) -> bool
-    requires { at + n ≤ length rec.now }
-    ensures { result ≡ every printable (window rec.now at n) }
+// Is the row one of W columns? The width is a constant, so that each test of bytes is as many vector instructions as it needs.
+pub fn row_ok<const W: usize>(row: &Row) -> bool
+    requires { W ≤ 80 }
+    ensures { result ≡ valid_row W row.now }
 {
-    printables(&rec[at..at + n])
-}
-
-// Is the row r one of W columns? The width is a constant, so that each test of bytes is as many vector instructions as it needs.
-#[tactic(auto, using(crate::proofs::ValidLaws::row_test))]
-fn row_ok<const W: usize>(rec: &Record, r: usize) -> bool
-    requires { (r < 25) × (W ≤ 80) }
-    ensures { result ≡ valid_row W (row_of rec.now r) }
-{
-    row::flag_at(rec, r) <= 1
-        && all_printable(rec, CHARS + STRIDE * r, W)
-        && zero::all_zero(rec, CHARS + STRIDE * r + W, STRIDE - W)
-        && zero::all_zero(rec, ATTRS + STRIDE * r + W, STRIDE - W)
+    let (chars, attrs) = (row.chars(), row.attrs());
+    row.flag() <= 1
+        && all_printable(&chars[..W])
+        && zero::all_zero(&chars[W..])
+        && zero::all_zero(&attrs[W..])
 }
 
 #[tactic(auto, unfolding(crate::specs::Screen::valid_attr))]
@@ -68,14 +57,11 @@ pub fn head_ok(h: head::Head) -> bool
         && attr_ok(h.attr)
 }
 
-#[tactic(auto, unfolding(crate::specs::Record::frontb))]
+#[tactic(auto, using(crate::proofs::ValidLaws::front_tested))]
 fn front_ok(rec: &Record) -> bool
     ensures { result ≡ frontb rec.now }
 {
-    rec[0] == (SIZE / 256) as u8
-        && rec[1] == (SIZE % 256) as u8
-        && rec[2] == VERSION
-        && head::read_touched(rec) < MASKS
+    number::two_at(rec, 0) == SIZE && rec[2] == VERSION && head::read_touched(rec) < MASKS
 }
 
 // Are all rows of W columns?
@@ -83,16 +69,16 @@ fn rows_ok<const W: usize>(rec: &Record) -> bool
     requires { W ≤ 80 }
     ensures { result ≡ every (valid_row W) (rows_of rec.now) }
 {
-    for r in 0..SCREEN_ROWS {
-        if !row_ok::<W>(rec, r) {
-            return false;
-        }
-    }
-    true
+    (0..SCREEN_ROWS).all(
+        |r|
+            requires { (W ≤ 80) × (r < 25) }
+            ensures { result ≡ valid_row W (row_of rec.entry.now r) }
+        { row_ok::<W>(&Row::of(rec, r)) },
+    )
 }
 
 // Is the slice a record as the layout asks?
-#[tactic(auto, using(crate::proofs::ValidLaws::length_bad, crate::proofs::ValidLaws::record_test, crate::proofs::ValidLaws::head_bad))]
+#[tactic(auto, using(crate::proofs::ValidLaws::length_bad, crate::proofs::ValidLaws::record_test, crate::proofs::ValidLaws::head_bad, crate::proofs::ValidLaws::wide_done))]
 pub fn valid(rec: &[u8]) -> bool
     ensures { result ≡ validb rec.now }
 {

@@ -14,7 +14,8 @@ use Rattle.octets.specs.Answer.{refused, number_of, wrote, Writes}
 use Rattle.octets.specs.Refusals.{first_of, all_pass, place_in, order}
 use Rattle.octets.specs.Width.{widthb}
 use Rattle.octets.specs.Part.{write}
-use Rattle.octets.proofs.Bools.{and_left, and_right, pick}
+use Rattle.std.proofs.lemmas.Bool.{cond-true as pick}
+use Rattle.octets.proofs.Bools.{and_left, and_right}
 use Rattle.octets.proofs.Found.{ordered, none_fails, unless_err, unless_ok}
 use Rattle.octets.proofs.WidthLaws.{width_cases}
 use Rattle.octets.proofs.PartLaws.{write_front}

@@ -1,21 +1,19 @@
 -- The key table: its test, and its macros and lengths as they are read out of it.
 -- Assumes nothing.
-use Prim.Native.Nat.{ℕ, ◌+◌, ◌-◌, ◌*◌, ◌≤◌, ◌<◌}
+use Prim.Native.Nat.{ℕ, ◌-◌, ◌≤◌, ◌<◌}
 use mathlib.Core.Path.{◌≡◌, refl}
 use mathlib.Core.Bool.{false}
 use mathlib.Core.List.{List, [], map}
 use mathlib.Core.Logic.{◌≢◌}
 use native.Mathlib.Omega.{arith}
-use lib.ListN.{length, get_or, take}
-use lib.Seq.{length-take-le}
+use lib.ListN.{length, get_or, take, drop, length-drop}
+use lib.Seq.{take_all}
 use borrow.Author.Tests.{le-leb, lt-leb, eq-eqb, ne_eqb}
 use Rattle.std.specs.List.{list_all, range_with_len}
 use Rattle.octets.specs.Test.{every, zerob}
-use Rattle.octets.specs.Part.{window}
 use Rattle.octets.specs.Table.{tabulate}
-use Rattle.octets.proofs.PartLaws.{length_window, drop_window}
 use Rattle.octets.proofs.Tables.{get_d_tabulate}
-use Rattle.keys.specs.Keys.{TABLE_SIZE, KEY_SIZE, MACRO_LEN, length_at, macro_at, valid_key, ten_keys, tableb, macros_of, lengths_of}
+use Rattle.keys.specs.Keys.{TABLE_SIZE, MACRO_LEN, length_at, macro_at, valid_key, ten_keys, tableb, macros_of, lengths_of}
 
 -- ---- the ten keys
 
@@ -48,20 +46,16 @@ module _ (t : List ℕ) where
   unfolding lengths_of
   lengths_at k h = each_at (length_at t) k 0 h
 
-  -- the first bytes of a macro
-  pub length_first : (k n : ℕ) → length t ≡ TABLE_SIZE → k < 10 → n ≤ MACRO_LEN → length (take n (macro_at t k)) ≡ n
-  unfolding macro_at
-  length_first k n len h few = length-take-le n _ (omega (arith, length_window t (KEY_SIZE * k + 1) MACRO_LEN (omega arith)))
-
-  -- ---- `key_ok`: n is the length that `length_at` has answered
+  -- ---- `key_ok`: n is the length that `length_at` has answered, m the macro that `macro_at` has
 
   pub key_long : (k : ℕ) → MACRO_LEN < length_at t k → valid_key t k ≡ false
   unfolding valid_key
   key_long k h = rw (lt-leb (length_at t k) MACRO_LEN h)
 
-  pub key_rest : (k n : ℕ) → n ≡ length_at t k → n ≤ MACRO_LEN → every zerob (window t (KEY_SIZE * k + 1 + n) (MACRO_LEN - n)) ≡ valid_key t k
-  unfolding valid_key macro_at
-  key_rest k n is h = rw (← is, le-leb n MACRO_LEN h, drop_window t (KEY_SIZE * k + 1) n MACRO_LEN)
+  pub key_rest : (k n : ℕ) (m : List ℕ) → length m ≡ MACRO_LEN → m ≡ macro_at t k → n ≡ length_at t k → n ≤ MACRO_LEN
+      → every zerob (take (MACRO_LEN - n) (drop n m)) ≡ valid_key t k
+  unfolding valid_key
+  key_rest k n m len em is h = rw (← em, ← is, le-leb n MACRO_LEN h, take_all (MACRO_LEN - n) (drop n m) (omega (arith, len, length-drop n m)))
 
   -- ---- `table_ok`
 

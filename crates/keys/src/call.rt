@@ -41,6 +41,7 @@ fn accepted<'a>(tab: &'a [u8], offset: u32, width: usize, out: &[u8]) -> Result<
 pub fn keys_strip(tab: &[u8], offset: u32, width: u32, out: &mut [u8]) -> Result<u32, Refusal>
     ensures { Writes (stripping tab.now offset width out.old) (answered result) out.new }
 {
+    // Kept so: casts, since no `From` leads from u32 to usize, and `try_from` would have a case that never comes.
     let columns = width as usize;
     let tab = accepted(tab, offset, columns, out)?;
     strip::strip(tab, offset as usize, columns, out);

@@ -22,6 +22,8 @@ fn display_byte(b: u8) -> u8
 }
 
 // The tenth is 0.
+// Kept so: a cast, since no `From` leads from usize to u8, and `try_from` would have a case that never comes. And that a key is below ten stands at five
+// functions: a type for it would be made of a number at each call.
 #[tactic(auto, unfolding(crate::specs::Keys::digit))]
 fn digit(key: usize) -> u8
     requires { key < 10 }
@@ -31,7 +33,7 @@ fn digit(key: usize) -> u8
 }
 
 // A key's slot: digit, first six display bytes, spaces to 8 columns.
-#[tactic(auto, using(octets::proofs::PartLaws::write_none, crate::proofs::TableLaws::length_first, crate::proofs::StripLaws::shown_turn))]
+#[tactic(auto, using(octets::proofs::PartLaws::write_none, crate::proofs::StripLaws::shown_turn))]
 fn slot(tab: &Table, key: usize) -> [u8; SLOT]
     requires { key < 10 }
     ensures { result ≡ slot (macros_of tab.now) (lengths_of tab.now) key }

@@ -25,11 +25,13 @@ pub fn length_at(tab: &Table, k: usize) -> usize
 }
 
 #[tactic(auto, unfolding(crate::specs::Keys::macro_at, octets::specs::Part::window))]
-pub fn macro_at(tab: &Table, k: usize) -> &[u8]
+pub fn macro_at(tab: &Table, k: usize) -> &[u8; MACRO_LEN]
     requires { k < 10 }
     ensures { result.now ≡ macro_at tab.now k }
 {
-    &tab[KEY_SIZE * k + 1..KEY_SIZE * (k + 1)]
+    tab[KEY_SIZE * k + 1..KEY_SIZE * (k + 1)]
+        .as_array()
+        .unwrap()
 }
 
 // A length 0 to 15, and unused bytes 0.
@@ -39,7 +41,7 @@ fn key_ok(tab: &Table, k: usize) -> bool
     ensures { result ≡ valid_key tab.now k }
 {
     let n = length_at(tab, k);
-    n <= MACRO_LEN && zero::all_zero(tab, KEY_SIZE * k + 1 + n, MACRO_LEN - n)
+    n <= MACRO_LEN && zero::all_zero(&macro_at(tab, k)[n..])
 }
 
 // Is the slice a key table as the layout asks?

@@ -6,15 +6,18 @@ use mathlib.Core.List.{List, [], ◌∷◌, ◌++◌}
 use native.Mathlib.Nat.{not-suc-le-zero, le_of_suc-le-suc, mul-le-mul_right}
 use native.Mathlib.Decide.{dec_lt}
 use native.Mathlib.Omega.{arith}
-use lib.ListN.{length, get_or, take, drop, replicate, length-append, length-drop}
+use lib.ListN.{length, get_or, take, drop, replicate, length-append, length-drop, length-take}
 use lib.Seq.{take-nil, take-add, take-take, take-append-le, take-append-add, drop-append-add, drop-cons, get_or-drop, length-take-le}
-use Rattle.grid.specs.Layout.{SIZE}
-use Rattle.grid.specs.Screen.{Row, no_row}
+use Rattle.grid.specs.Screen.{Row, Screen, no_row, row_at, trim, is_space}
 use Rattle.octets.specs.Part.{write}
-use Rattle.grid.specs.Record.{row_of, rows_of}
+use Rattle.grid.specs.Record.{row_of, screen_with}
+use Rattle.grid.specs.Facts.{ScreenFacts, Known}
+use Rattle.grid.specs.declared.head.Head.{Head}
 use Rattle.octets.proofs.PartLaws.{write_append, write_none}
-use Rattle.grid.proofs.RowLaws.{length_rows, get_d_rows, full_row}
-use Rattle.line.specs.Line.{MAX-LOGICAL, joined}
+use Rattle.grid.proofs.ScreenLaws.{head_seen, row_seen, facts_seen}
+use Rattle.grid.proofs.Trim.{trim_le}
+use Rattle.grid.proofs.Keep.{row_at_facts}
+use Rattle.line.specs.Line.{MAX-LOGICAL, joined, row_text, whole_rows}
 use Rattle.line.specs.Text.{line_from}
 
 -- ---- lists
@@ -50,11 +53,11 @@ head_length : (w : ℕ) (x : Row) (rows : List Row) → Wide w (x ∷ rows) → 
 unfolding Wide
 head_length w x rows wide = length-take-le w x.chars (wide 0 (omega arith))
 
-wide_rows : (w : ℕ) (l : List ℕ) → length l ≡ SIZE → w ≤ 80 → Wide w (rows_of l)
-unfolding Wide
-wide_rows w l len h i k =
-    let q : i < 25 = omega (arith, length_rows l) in
-    subst (λ (x : Row). w ≤ length x.chars) (sym (get_d_rows l i no_row q)) (omega (arith, (full_row l i len q).chars80))
+wide_rows : (s : Screen) → ScreenFacts s → Wide s.head.width s.rows
+unfolding Wide row_at
+wide_rows s f i k =
+    let q : i < 25 = omega (arith, f.rows.count) in
+    omega (arith, (row_at_facts i q f.rows).chars80)
 
 joined_drop : (w k : ℕ) (rows : List Row) → Wide w rows → k ≤ length rows → drop (k * w) (joined w rows) ≡ joined w (drop k rows)
 unfolding joined
@@ -102,49 +105,47 @@ length_joined w (x ∷ rows) wide =
     let ih : length (joined w rows) ≡ length rows * w = length_joined w rows (wide_tail w x rows wide) in
     simp length-append (omega arith)
 
--- ---- the rows of a record from start on, w characters of each
+-- ---- the rows of a screen from start on
 
-module _ (l : List ℕ) (start w : ℕ) (len : length l ≡ SIZE) (wide : w ≤ 80) where
-  rows : List Row
-  rows = drop start (rows_of l)
+module _ (s : Screen) (f : ScreenFacts s) (start : ℕ) where
+  wide_from : Wide s.head.width (drop start s.rows)
+  wide_from = wide_drop s.head.width start s.rows (wide_rows s f)
 
-  wide_from : Wide w rows
-  unfolding rows
-  wide_from = wide_drop w start (rows_of l) (wide_rows w l len wide)
+  count_from : length (drop start s.rows) ≡ 25 - start
+  count_from = length-drop start s.rows ∙ ap (λ (k : ℕ). k - start) f.rows.count
 
-  count_from : length rows ≡ 25 - start
-  unfolding rows
-  count_from = length-drop start (rows_of l) ∙ ap (λ (k : ℕ). k - start) (length_rows l)
-
-  row_from_is : (r : ℕ) → start ≤ r → r < 25 → get_or rows (r - start) no_row ≡ row_of l r
-  unfolding rows
-  row_from_is r h k =
+  row_from_is : (r : ℕ) → start ≤ r → get_or (drop start s.rows) (r - start) no_row ≡ row_at s.rows r
+  unfolding row_at
+  row_from_is r h =
       let q : start + (r - start) ≡ r = omega arith in
-      get_or-drop start (rows_of l) (r - start) no_row ∙ ap (λ (j : ℕ). get_or (rows_of l) j no_row) q ∙ get_d_rows l r no_row k
+      get_or-drop start s.rows (r - start) no_row ∙ ap (λ (j : ℕ). get_or s.rows j no_row) q
 
-  pub length_from : (n : ℕ) → n ≤ (25 - start) * w → length (line_from l start w n) ≡ n
-  unfolding line_from rows
-  length_from n h = length-take-le n (joined w rows) (rw (length_joined w rows wide_from, count_from) h)
+  pub length_from : (n : ℕ) → n ≤ (25 - start) * s.head.width → length (line_from s start n) ≡ n
+  unfolding line_from
+  length_from n h = length-take-le n (joined s.head.width (drop start s.rows)) (rw (length_joined s.head.width (drop start s.rows) wide_from, count_from) h)
 
   -- n characters more, from the row r
-  more_from : (r n : ℕ) → start ≤ r → r < 25 → n ≤ w → line_from l start w ((r - start) * w + n) ≡ line_from l start w ((r - start) * w) ++ take n (row_of l r).chars
-  unfolding line_from rows
-  more_from r n h k m = rw (← (row_from_is r h k)) (joined_more w (r - start) n rows wide_from (omega (arith, count_from)) m)
+  more_from : (r n : ℕ) → start ≤ r → r < 25 → n ≤ s.head.width
+      → line_from s start ((r - start) * s.head.width + n) ≡ line_from s start ((r - start) * s.head.width) ++ take n (row_at s.rows r).chars
+  unfolding line_from
+  more_from r n h k m =
+      rw (← (row_from_is r h)) (joined_more s.head.width (r - start) n (drop start s.rows) wide_from (omega (arith, count_from)) m)
 
   -- whole rows up to the row r, and n characters of it, cut
-  pub cut_from : (r n : ℕ) → start ≤ r → r < 25 → n ≤ w
-      → take MAX-LOGICAL (joined w (take (r - start) (drop start (rows_of l))) ++ take n (take w (row_of l r).chars))
-      ≡ line_from l start w (min MAX-LOGICAL ((r - start) * w + n))
-  unfolding line_from rows
+  pub cut_from : (r n : ℕ) → start ≤ r → r < 25 → n ≤ s.head.width
+      → take MAX-LOGICAL (whole_rows s start r ++ take n (row_text s r)) ≡ line_from s start (min MAX-LOGICAL ((r - start) * s.head.width + n))
+  unfolding line_from whole_rows row_text
   cut_from r n h k m =
+      let w : ℕ = s.head.width in
+      let rows : List Row = drop start s.rows in
       let whole : joined w (take (r - start) rows) ≡ take ((r - start) * w) (joined w rows) = joined_take w (r - start) rows wide_from (omega (arith, count_from)) in
-      ap (take MAX-LOGICAL) (ap₂ (λ (u v : List ℕ). u ++ v) whole (take-take n w (row_of l r).chars m) ∙ sym (more_from r n h k m))
+      ap (take MAX-LOGICAL) (ap₂ (λ (u v : List ℕ). u ++ v) whole (take-take n w (row_at s.rows r).chars m) ∙ sym (more_from r n h k m))
       ∙ take_min MAX-LOGICAL ((r - start) * w + n) (joined w rows)
 
   -- as many as the code reads
-  pub fits_from : (r n : ℕ) → start ≤ r → r < 25 → n ≤ w → (r - start) * w + n ≤ (25 - start) * w
+  pub fits_from : (r n : ℕ) → start ≤ r → r < 25 → n ≤ s.head.width → (r - start) * s.head.width + n ≤ (25 - start) * s.head.width
   fits_from r n h k m =
-      let b : suc (r - start) * w ≤ (25 - start) * w = mul-le-mul_right w (omega arith) in
+      let b : suc (r - start) * s.head.width ≤ (25 - start) * s.head.width = mul-le-mul_right s.head.width (omega arith) in
       omega arith
 
 -- the rows up to the last, and it
@@ -153,42 +154,86 @@ rows_more start end w h =
     let q : end + 1 - start ≡ suc (end - start) = omega arith in
     rw q (omega arith)
 
+-- a row's text is no longer than the width
+pub trim_to : (w : ℕ) (cs : List ℕ) → length (trim (take w cs)) ≤ w
+unfolding trim
+trim_to w cs =
+    let a : length (take w cs) ≤ w = simp length-take (omega arith) in
+    omega (arith, trim_le is_space (take w cs))
+
+pub text_to : (s : Screen) (r : ℕ) → length (trim (row_text s r)) ≤ s.head.width
+unfolding row_text
+text_to s r = trim_to s.head.width (row_at s.rows r).chars
+
 -- ---- joined_rows: behind the rows from start up to r come n characters of the row r, of `most` in all
 
-module _ (l : List ℕ) (start w r : ℕ) (len : length l ≡ SIZE) (wide : w ≤ 80) (from : start ≤ r) (below : r < 25) where
-  copied : (m m' : List ℕ) (n : ℕ) → n ≤ w → m ≡ write (replicate MAX-LOGICAL 32) 0 (line_from l start w ((r - start) * w))
-      → m' ≡ write m ((r - start) * w) (take n (row_of l r).chars) → m' ≡ write (replicate MAX-LOGICAL 32) 0 (line_from l start w ((r - start) * w + n))
+-- the first n characters from start on over spaces
+abbrev pub over_spaces : Screen → ℕ → ℕ → List ℕ
+over_spaces s start n = write (replicate MAX-LOGICAL 32) 0 (line_from s start n)
+
+module _ (s : Screen) (f : ScreenFacts s) (start r : ℕ) (from : start ≤ r) (below : r < 25) where
+  copied : (m m' : List ℕ) (n : ℕ) → n ≤ s.head.width → m ≡ over_spaces s start ((r - start) * s.head.width)
+      → m' ≡ write m ((r - start) * s.head.width) (take n (row_at s.rows r).chars) → m' ≡ over_spaces s start ((r - start) * s.head.width + n)
   copied m m' n h e e' =
-      let s : List ℕ = line_from l start w ((r - start) * w) in
-      let t : List ℕ = take n (row_of l r).chars in
+      let w : ℕ = s.head.width in
+      let cs : List ℕ = line_from s start ((r - start) * w) in
+      let t : List ℕ = take n (row_at s.rows r).chars in
       let to : (r - start) * w ≤ (25 - start) * w = mul-le-mul_right w (omega arith) in
-      let k : (r - start) * w ≡ 0 + length s = omega (arith, length_from l start w len wide ((r - start) * w) to) in
-      e' ∙ ap₂ (λ (x : List ℕ) (j : ℕ). write x j t) e k ∙ write_append (replicate MAX-LOGICAL 32) 0 s t
-      ∙ ap (write (replicate MAX-LOGICAL 32) 0) (sym (more_from l start w len wide r n from below h))
+      let k : (r - start) * w ≡ 0 + length cs = omega (arith, length_from s f start ((r - start) * w) to) in
+      e' ∙ ap₂ (λ (x : List ℕ) (j : ℕ). write x j t) e k ∙ write_append (replicate MAX-LOGICAL 32) 0 cs t
+      ∙ ap (write (replicate MAX-LOGICAL 32) 0) (sym (more_from s f start r n from below h))
 
-  pub chars_turn : (m m' : List ℕ) (most i n : ℕ) → m ≡ write (replicate MAX-LOGICAL 32) 0 (line_from l start w (min most ((r - start) * w)))
-      → i ≡ min most ((r - start) * w) → n ≡ min w (most - i) → m' ≡ write m i (take n (row_of l r).chars)
-      → m' ≡ write (replicate MAX-LOGICAL 32) 0 (line_from l start w (min most ((r + 1 - start) * w)))
-  chars_turn m m' most i n e ei en e' = pick (dec_lt most ((r - start) * w))
+  turned : (m m' : List ℕ) (most i n : ℕ) → m ≡ over_spaces s start (min most ((r - start) * s.head.width)) → i ≡ min most ((r - start) * s.head.width)
+      → n ≡ min s.head.width (most - i) → m' ≡ write m i (take n (row_at s.rows r).chars)
+      → m' ≡ over_spaces s start (min most ((r + 1 - start) * s.head.width))
+  turned m m' most i n e ei en e' = pick (dec_lt most ((r - start) * s.head.width))
     where
-      next : (r + 1 - start) * w ≡ (r - start) * w + w
-      next = rows_more start r w from
+      next : (r + 1 - start) * s.head.width ≡ (r - start) * s.head.width + s.head.width
+      next = rows_more start r s.head.width from
 
-      pick : Dec (most < (r - start) * w) → m' ≡ write (replicate MAX-LOGICAL 32) 0 (line_from l start w (min most ((r + 1 - start) * w)))
+      pick : Dec (most < (r - start) * s.head.width) → m' ≡ over_spaces s start (min most ((r + 1 - start) * s.head.width))
       pick (yes h) =
+          let w : ℕ = s.head.width in
           let z : n ≡ 0 = omega arith in
           let q : min most ((r - start) * w) ≡ min most ((r + 1 - start) * w) = omega (arith, next) in
-          rw z at e' ∙ write_none m i ∙ e ∙ ap (λ (k : ℕ). write (replicate MAX-LOGICAL 32) 0 (line_from l start w k)) q
+          rw z at e' ∙ write_none m i ∙ e ∙ ap (over_spaces s start) q
       pick (no h) =
+          let w : ℕ = s.head.width in
           let z : min most ((r - start) * w) ≡ (r - start) * w = omega arith in
           let q : (r - start) * w + n ≡ min most ((r + 1 - start) * w) = omega (arith, next) in
           rw q at (copied m m' n (omega arith) (rw z at e) (rw (ei, z) at e'))
 
-pub chars_start : (l : List ℕ) (start w most : ℕ) → replicate MAX-LOGICAL 32 ≡ write (replicate MAX-LOGICAL 32) 0 (line_from l start w (min most ((start - start) * w)))
+-- ---- the same of a screen that is read from a record
+
+module _ (l : List ℕ) (h : Head) (s : Screen) (known : Known l h) (is : screen_with h l ≡ s) where
+  pub width_seen : h.width ≡ s.head.width
+  width_seen = ap (λ (x : Head). x.width) (head_seen l h s is)
+
+  pub text_seen : (x : Row) (r : ℕ) → r < 25 → x ≡ row_of l r → take h.width x.chars ≡ row_text s r
+  unfolding row_text
+  text_seen x r k e = ap₂ (λ (w : ℕ) (y : Row). take w y.chars) width_seen (row_seen l h s is x r k e)
+
+  -- `joined_rows`: a turn of its loop, and the end of it
+  pub chars_turn : (m m' cs : List ℕ) (x : Row) (start r most i n : ℕ) → start ≤ r → r < 25
+      → m ≡ write (replicate MAX-LOGICAL 32) 0 (line_from s start (min most ((r - start) * h.width)))
+      → i ≡ min most ((r - start) * h.width) → n ≡ min h.width (most - i) → x ≡ row_of l r → cs ≡ x.chars → m' ≡ write m i (take n cs)
+      → m' ≡ write (replicate MAX-LOGICAL 32) 0 (line_from s start (min most ((r + 1 - start) * h.width)))
+  chars_turn m m' cs x start r most i n from below e ei en ex ec e' =
+      let c : cs ≡ (row_at s.rows r).chars = ec ∙ ap (λ (y : Row). y.chars) (row_seen l h s is x r below ex) in
+      rw width_seen
+      (turned s (facts_seen l h s is known) start r from below m m' most i n (rw width_seen at e) (rw width_seen at ei) (rw width_seen at en) (rw c at e'))
+
+  pub chars_end : (m : List ℕ) (start end r most : ℕ) → most ≤ (end + 1 - start) * s.head.width → r ≡ end + 1
+      → m ≡ write (replicate MAX-LOGICAL 32) 0 (line_from s start (min most ((r - start) * h.width))) → m ≡ write (replicate MAX-LOGICAL 32) 0 (line_from s start most)
+  chars_end m start end r most fits er e =
+      let q : min most ((r - start) * h.width) ≡ most = rw (er, width_seen) (omega arith) in
+      e ∙ ap (over_spaces s start) q
+
+-- and its beginning
+pub chars_start : (s : Screen) (start w most : ℕ)
+    → replicate MAX-LOGICAL 32 ≡ write (replicate MAX-LOGICAL 32) 0 (line_from s start (min most ((start - start) * w)))
 unfolding line_from
-chars_start l start w most =
+chars_start s start w most =
     let z : start - start ≡ 0 = omega arith in
     let q : min most (0 * w) ≡ 0 = omega arith in
     rw (z, q) (sym (write_none (replicate MAX-LOGICAL 32) 0))
-
--- ---- the rows of a screen are few characters

@@ -1,5 +1,4 @@
 -- The laws of logical lines.
-pub mod HeadLaws
 pub mod CharsLaws
 pub mod SpanLaws
 pub mod ReadingLaws

@@ -18,12 +18,12 @@ use Rattle.std.specs.Iterator.Adapters.{rev_source, rev_steps}
 use Rattle.std.specs.declared.iter.Rev.{Rev}
 use Rattle.std.specs.declared.ops.Range.{Range}
 use Rattle.grid.specs.Screen.{Row, Screen, editable, row_at, no_row}
-use Rattle.grid.specs.Record.{row_of, rows_of, head_of, screen_of}
+use Rattle.grid.specs.Record.{row_of, rows_of, screen_with}
 use Rattle.grid.specs.declared.head.Head.{Head}
 use Rattle.octets.proofs.Bools.{either}
 use Rattle.grid.proofs.RowLaws.{get_d_rows}
 use Rattle.line.specs.Line.{flagged, span_start, span_end, start_of, end_of}
-use Rattle.line.specs.Given.{Known, SpanIs}
+use Rattle.line.specs.Given.{SpanOf}
 
 -- does a line end with row k? Asked of the record, as the code asks it
 abbrev pub ends_line : List ℕ → ℕ → Bool
@@ -126,23 +126,11 @@ end_at l row e x o h h' q f =
     q ∙ ap₂ unwrap_or (sym (option_map_id o) ∙ f) (sym last) ∙ end_found l n row (omega arith) in
     (is, omega (arith, span_end_from (rows_of l) n row), omega (arith, span_end_to (rows_of l) n row))
 
--- ---- span_at: e is what editable_rows has answered
+-- ---- span_at: the screen s is read from the record l with the head h, and e is what editable_rows has answered
 
-pub span_made : (l : List ℕ) (h : Head) (row start end e : ℕ) → h ≡ head_of l → e ≡ editable h.keys
-    → start ≡ span_start (rows_of l) row → start ≤ row → end ≡ span_end (rows_of l) (e - 1 - row) row → row ≤ end → end < e → SpanIs l h row start end
+pub span_made : (l : List ℕ) (h : Head) (s : Screen) (row start end e : ℕ) → screen_with h l ≡ s → e ≡ editable h.keys
+    → start ≡ span_start (rows_of l) row → start ≤ row → end ≡ span_end (rows_of l) (e - 1 - row) row → row ≤ end → end < e → SpanOf s row start end
 unfolding start_of end_of
-span_made l h row start end e ih ee es hs ed hd hi =
-    let q : e ≡ editable (head_of l).keys = ee ∙ ap (λ (x : Head). editable x.keys) ih in
-    record { first = es; last = ed ∙ ap (λ (k : ℕ). span_end (rows_of l) (k - 1 - row) row) q; from = hs; to = hd; inside = omega arith }
-
--- ---- the screen of a record whose head is h
-
-pub screen_is : (l : List ℕ) (h : Head) → Known l h → screen_of l ≡ record { head = h; rows = rows_of l }
-screen_is l h known = ap (λ (x : Head). record { head = x; rows = rows_of l }) (sym known.head)
-
-module _ (l : List ℕ) (h : Head) (row start end : ℕ) (known : Known l h) (sp : SpanIs l h row start end) where
-  pub start_is : start_of (record { head = h; rows = rows_of l }) row ≡ start
-  start_is = ap (λ (x : Screen). start_of x row) (sym (screen_is l h known)) ∙ sym sp.first
-
-  pub end_is : end_of (record { head = h; rows = rows_of l }) row ≡ end
-  end_is = ap (λ (x : Screen). end_of x row) (sym (screen_is l h known)) ∙ sym sp.last
+span_made l h s row start end e is ee es hs ed hd hi =
+    subst (λ (x : Screen). SpanOf x row start end) is
+    (record { first = es; last = ed ∙ ap (λ (k : ℕ). span_end (rows_of l) (k - 1 - row) row) ee; from = hs; to = hd; inside = omega arith })

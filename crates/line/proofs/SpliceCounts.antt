@@ -10,7 +10,7 @@ use mir.Syntax.{w64}
 use mir.Val.{Fits}
 use borrow.Author.Tests.{lt-ltb, le-ltb, eq-eqb, ne_eqb}
 use Rattle.std.specs.Prelude.{if◌then◌else◌}
-use Rattle.octets.proofs.Bools.{pick, skip}
+use Rattle.std.proofs.lemmas.Bool.{cond-true as pick, cond-false as skip}
 use Rattle.line.specs.Line.{MAX-LOGICAL}
 use Rattle.line.specs.Splice.{rows_for}
 use Rattle.line.specs.Plan.{Count}

@@ -1,7 +1,7 @@
 -- The planned rows are those of `spliced_rows`, and what the functions that splice leave.
 -- Assumes nothing.
 use Prim.Native.Nat.{ℕ, ◌+◌, ◌-◌, ◌/◌, ◌%◌, ◌≤◌, ◌<◌, min}
-use mathlib.Core.Path.{◌≡◌, sym, ap, ◌∙◌, subst}
+use mathlib.Core.Path.{◌≡◌, sym, ap, ap₂, ◌∙◌, subst}
 use mathlib.Core.List.{List, [], ◌++◌, append_assoc}
 use native.Mathlib.Nat.{div-le_self}
 use native.Mathlib.Decide.{dec_lt}
@@ -13,22 +13,22 @@ use mir.Val.{Fits}
 use Rattle.grid.specs.Screen.{Row, Screen, with_cursor, with_rows, move_to, editable, no_row, row_at, blank_row}
 use Rattle.values.specs.Cursor.{at}
 use Rattle.octets.specs.Table.{tabulate}
-use Rattle.grid.specs.Record.{rows_of, screen_of, Becomes, Leaves}
+use Rattle.grid.specs.Record.{rows_of, screen_with, Becomes, Leaves}
 use Rattle.values.specs.declared.cursor.Cursor.{Cursor}
 use Rattle.grid.specs.declared.head.Head.{Head}
 use Rattle.octets.proofs.Tables.{length_tabulate, get_d_tabulate}
 use Rattle.grid.proofs.RowLaws.{length_rows}
-use Rattle.line.specs.Line.{MAX-LOGICAL}
+use Rattle.line.specs.Line.{MAX-LOGICAL, start_of, end_of}
 use Rattle.line.specs.Splice.{rows_for, line_rows, spliced_rows, splice, without_rows}
-use Rattle.line.specs.Given.{Known, SpanIs}
+use Rattle.line.specs.Given.{SpanOf}
 use Rattle.line.specs.Text.{text_of}
 use Rattle.line.specs.Plan.{Count, plan_of, Laid, planned_row, planned_rows}
 use Rattle.line.specs.declared.text.Text.{Text}
 use Rattle.line.specs.declared.plan.Plan.{Plan}
-use Rattle.line.proofs.SpanLaws.{screen_is, start_is, end_is}
 use Rattle.line.proofs.TextLaws.{length_text}
+use Rattle.grid.proofs.ScreenLaws.{head_seen}
 use Rattle.line.proofs.PlanLaws.{plan_laid, planned_above, length_lines, planned_line, planned_below, planned_blank}
-use Rattle.grid.specs.Facts.{HeadFacts}
+use Rattle.grid.specs.Facts.{HeadFacts, Known}
 
 module _ (rows new : List Row) (blank : Row) (e b d : ℕ) (size : length rows ≡ 25) (h₁ : b ≤ d) (h₂ : d < e) (h₃ : e ≤ 25) (h₄ : length new ≤ e) where
   n : ℕ
@@ -142,76 +142,68 @@ module _ (rows new : List Row) (blank : Row) (e b d : ℕ) (size : length rows �
       lead_at i h ∙ sym (get_d_tabulate f e i no_row h)) in
       sym (append_assoc kept blanks (drop e rows)) ∙ ap (λ (x : List Row). x ++ drop e rows) t
 
--- ---- splice_logical, remove_line: p is the plan for k rows in the place of the rows b to d
+-- ---- head_in: h is the head of the screen s, in the record r
 
-module _ (old : List ℕ) (h : Head) (b d e : ℕ) (p : Plan) (known : Known old h) (ee : e ≡ editable h.keys) where
-  laid : (k : ℕ) → k ≤ 8 → b ≤ d → d < e → p ≡ plan_of b d k e → Laid p
-  laid k hk hb hd ep = rw ep (plan_laid b d k e hb hd (omega arith) (omega arith) hk)
-
-  pub removed_laid : b ≤ d → d < editable h.keys → p ≡ plan_of b d 0 e → Laid p
-  removed_laid hb hd ep = laid 0 (omega arith) hb (omega arith) ep
-
-  module _ (k n i : ℕ) (sp : SpanIs old h h.cursor.row b d) (count : Count h.width n i k) (ep : p ≡ plan_of b d k e) where
-    pub splice_laid : Laid p
-    splice_laid = laid k (omega arith) (omega arith) (omega arith) ep
-
--- `head_in`
 pub cursor_fits : (h : Head) (p : Plan) (i : ℕ) → HeadFacts h → Laid p → i ≤ MAX-LOGICAL → Fits w64 (p.top + i / h.width)
 cursor_fits h p i f l n = record { fits = omega (arith, l, div-le_self i h.width) }
 
-module _ (old l m : List ℕ) (h : Head) (b d e : ℕ) (p : Plan) (known : Known old h) (ee : e ≡ editable h.keys) where
-  s : Screen
-  s = record { head = h; rows = rows_of old }
+pub head_placed : (r : List ℕ) (h g : Head) (s : Screen) (p : Plan) (i : ℕ) (c : Cursor) → screen_with h r ≡ s → c ≡ at (p.top + i / h.width) (i % h.width)
+    → g ≡ with_cursor h c → g ≡ with_cursor s.head (at (p.top + i / s.head.width) (i % s.head.width))
+head_placed r h g s p i c e ec eg =
+    eg ∙ ap (with_cursor h) ec ∙ ap (λ (x : Head). with_cursor x (at (p.top + i / x.width) (i % x.width))) (head_seen r h s e)
 
-  on_screen : (P : Screen → Type 0) → P s → P (screen_of old)
-  unfolding s
-  on_screen P x = subst P (sym (screen_is old h known)) x
+-- ---- splice_logical, remove_line: the screen s of the record l is a line's screen u
 
-  -- rows and head of a screen with the cursor at c
-  left : (c : Cursor) (R : List Row) (t : Screen) → Becomes l m R → R ≡ t.rows → with_cursor h c ≡ t.head → Leaves t l m (with_cursor h c)
-  left c R t x e q = record { becomes = record { size = x.size; front = x.front; rows = x.rows ∙ e }; head = q }
+pub same_rows : (l : List ℕ) (s u : Screen) → rows_of l ≡ s.rows → u ≡ s → rows_of l ≡ u.rows
+same_rows l s u e line = e ∙ ap (λ (x : Screen). x.rows) (sym line)
 
-  pub line_removed : (g : Head) (c : Cursor) → g ≡ with_cursor h c → b ≤ d → d < editable h.keys → p ≡ plan_of b d 0 e → c ≡ at b 0
-      → Becomes l m (planned_rows (rows_of old) (line_rows p.lines h.width h.attr []) (blank_row h.width h.attr) p)
-      → Leaves (without_rows (screen_of old) b d) l m g
-  unfolding without_rows move_to with_rows line_rows plan_of s
-  line_removed g c eg hb hd ep ec x =
-      let t : Screen = without_rows s b d in
-      let r : planned_rows (rows_of old) (line_rows p.lines h.width h.attr []) (blank_row h.width h.attr) p ≡ t.rows =
-      rw (ep, ← ee) (sym (spliced_planned (rows_of old) [] (blank_row h.width h.attr) e b d (length_rows old) hb (omega arith) (omega arith) (omega arith))) in
-      rw eg (on_screen (λ (y : Screen). Leaves (without_rows y b d) l m (with_cursor h c)) (left c _ t x r (rw ec)))
+-- h is the head of the screen u, in the record r, and p is the plan for k rows in the place of the span of the cursor's row
+module _ (r : List ℕ) (h : Head) (u : Screen) (b d e k : ℕ) (p : Plan) (is : screen_with h r ≡ u) (known : Known r h) (ee : e ≡ editable h.keys)
+    (sp : SpanOf u u.head.cursor.row b d) (ep : p ≡ plan_of b d k e) where
+  editing : editable u.head.keys ≡ e
+  editing = sym (ee ∙ ap (λ (x : Head). editable x.keys) (head_seen r h u is))
 
-  -- the text t
-  module _ (k : ℕ) (t : Text) (sp : SpanIs old h h.cursor.row b d) (count : Count h.width t.len t.index k)
-      (ep : p ≡ plan_of b d k e) where
-    new : List Row
-    new = line_rows k h.width h.attr (text_of t)
+  below : d < e
+  below = omega (arith, editing)
 
-    count_of : rows_for h.width (length (text_of t)) t.index ≡ k
-    count_of = ap (λ (x : ℕ). rows_for h.width x t.index) (length_text t) ∙ sym count.is
+  pub line_laid : k ≤ 8 → Laid p
+  line_laid most = rw ep (plan_laid b d k e (omega arith) below (omega arith) (omega arith) most)
 
-    pub spliced_end : (g : Head) → g ≡ with_cursor h (at (p.top + t.index / h.width) (t.index % h.width)) → Becomes l m (planned_rows (rows_of old) (line_rows p.lines h.width h.attr (text_of t)) (blank_row h.width h.attr) p)
-        → Leaves (splice (screen_of old) (text_of t) t.index) l m g
-    unfolding splice move_to with_rows plan_of text_of new s
-    spliced_end g eg x =
-        let z : length new ≡ k = length_lines k h.width h.attr (text_of t) in
-        let r : planned_rows (rows_of old) new (blank_row h.width h.attr) (plan_of b d k e) ≡ spliced_rows (rows_of old) e b d new (blank_row h.width h.attr) =
-        sym (rw z at (spliced_planned (rows_of old) new (blank_row h.width h.attr) e b d (length_rows old) (omega arith) (omega arith) (omega arith) (omega arith))) in
-        let eb = start_is old h h.cursor.row b d known sp in
-        let ed = end_is old h h.cursor.row b d known sp in
-        rw eg
-        (on_screen (λ (y : Screen). Leaves (splice y (text_of t) t.index) l m (with_cursor h (at (p.top + t.index / h.width) (t.index % h.width))))
-        (left (at (p.top + t.index / h.width) (t.index % h.width)) _ (splice s (text_of t) t.index) (rw ep at x) (rw (eb, ed, count_of, ← ee) r) (rw (ep, eb, count_of, ← ee))))
+  -- the rows by the plan, of the characters cs
+  replaced : (cs : List ℕ) → k ≤ 8 → planned_rows u.rows (line_rows p.lines u.head.width u.head.attr cs) (blank_row u.head.width u.head.attr) p
+      ≡ spliced_rows u.rows e b d (line_rows k u.head.width u.head.attr cs) (blank_row u.head.width u.head.attr)
+  unfolding plan_of
+  replaced cs most =
+      let size : length u.rows ≡ 25 = ap (λ (x : Screen). length x.rows) (sym is) ∙ length_rows r in
+      let new : List Row = line_rows k u.head.width u.head.attr cs in
+      let n : length new ≡ k = length_lines k u.head.width u.head.attr cs in
+      rw ep (sym (rw n at (spliced_planned u.rows new (blank_row u.head.width u.head.attr) e b d size (omega arith) below (omega arith) (omega arith))))
 
--- the same, with the premises in the order in which they tell what is meant
-pub spliced_done : (old l m : List ℕ) (h g : Head) (b d e k : ℕ) (p : Plan) (t : Text) → p ≡ plan_of b d k e → e ≡ editable h.keys
-    → SpanIs old h h.cursor.row b d → Known old h → g ≡ with_cursor h (at (p.top + t.index / h.width) (t.index % h.width))
-    → Count h.width t.len t.index k
-    → Becomes l m (planned_rows (rows_of old) (line_rows p.lines h.width h.attr (take t.len t.bytes)) (blank_row h.width h.attr) p)
-    → Leaves (splice (screen_of old) (text_of t) t.index) l m g
-unfolding text_of
-spliced_done old l m h g b d e k p t ep ee sp known eg count x = spliced_end old l m h b d e p known ee k t sp count ep g eg x
+-- what a screen with other rows and another cursor leaves
+left : (l m : List ℕ) (g : Head) (R : List Row) (s : Screen) → Becomes l m R → R ≡ s.rows → g ≡ s.head → Leaves s l m g
+left l m g R s x e q = record { becomes = record { size = x.size; front = x.front; rows = x.rows ∙ e }; head = q }
 
--- `head_in`
-pub head_placed : (h g : Head) (c : Cursor) (r i : ℕ) → c ≡ at r i → g ≡ with_cursor h c → g ≡ with_cursor h (at r i)
-head_placed h g c r i ec eg = eg ∙ ap (with_cursor h) ec
+pub line_removed : (r l m : List ℕ) (h g : Head) (s u : Screen) (b d e : ℕ) (p : Plan) (c : Cursor) → u ≡ s → screen_with h r ≡ u → Known r h → e ≡ editable h.keys
+    → SpanOf u u.head.cursor.row b d → p ≡ plan_of b d 0 e
+    → Becomes l m (planned_rows u.rows (line_rows p.lines u.head.width u.head.attr []) (blank_row u.head.width u.head.attr) p) → c ≡ at b 0 → g ≡ with_cursor h c
+    → Leaves (without_rows s (start_of s s.head.cursor.row) (end_of s s.head.cursor.row)) l m g
+unfolding without_rows move_to with_rows line_rows
+line_removed r l m h g s u b d e p c line is known ee sp ep x ec eg =
+    subst (λ (y : Screen). Leaves (without_rows y (start_of y y.head.cursor.row) (end_of y y.head.cursor.row)) l m g) line
+    (left l m g _ (without_rows u (start_of u u.head.cursor.row) (end_of u u.head.cursor.row)) x
+    (rw (← sp.first, ← sp.last, editing r h u b d e 0 p is known ee sp ep) (replaced r h u b d e 0 p is known ee sp ep [] (omega arith)))
+    (rw (← sp.first) (eg ∙ ap₂ with_cursor (head_seen r h u is) ec)))
+
+pub text_spliced : (r l m : List ℕ) (h g : Head) (s u : Screen) (b d e k : ℕ) (p : Plan) (t : Text) → u ≡ s → screen_with h r ≡ u → Known r h → e ≡ editable h.keys
+    → SpanOf u u.head.cursor.row b d → Count h.width t.len t.index k → p ≡ plan_of b d k e
+    → Becomes l m (planned_rows u.rows (line_rows p.lines u.head.width u.head.attr (take t.len t.bytes)) (blank_row u.head.width u.head.attr) p)
+    → g ≡ with_cursor u.head (at (p.top + t.index / u.head.width) (t.index % u.head.width)) → Leaves (splice s (text_of t) t.index) l m g
+unfolding splice move_to with_rows plan_of text_of
+text_spliced r l m h g s u b d e k p t line is known ee sp count ep x eg =
+    let n : rows_for u.head.width (length (take t.len t.bytes)) t.index ≡ k =
+    ap₂ (λ (w i : ℕ). rows_for w i t.index) (sym (ap (λ (y : Head). y.width) (head_seen r h u is))) (length_text t) ∙ sym count.is in
+    let edit = editing r h u b d e k p is known ee sp ep in
+    subst (λ (y : Screen). Leaves (splice y (text_of t) t.index) l m g) line
+    (left l m g _ (splice u (text_of t) t.index) x
+    (rw (← sp.first, ← sp.last, n, edit) (replaced r h u b d e k p is known ee sp ep (take t.len t.bytes) count.high))
+    (rw (← sp.first, n, edit) (rw ep at eg)))

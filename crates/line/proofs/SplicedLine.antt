@@ -12,7 +12,8 @@ use lib.Seq.{take-append-add, take_at}
 use borrow.Author.Tests.{eqb-true, eq-eqb, ne_eqb}
 use Rattle.std.specs.Prelude.{if◌then◌else◌}
 use Rattle.octets.specs.Table.{tabulate}
-use Rattle.octets.proofs.Bools.{pick, skip, cases}
+use Rattle.std.proofs.lemmas.Bool.{cond-true as pick, cond-false as skip}
+use Rattle.octets.proofs.Bools.{cases}
 use Rattle.octets.proofs.Tables.{length_tabulate, get_d_tabulate}
 use Rattle.grid.specs.Screen.{Row, Screen, with_rows, move_to, editable, no_row, row_at, blank_row, spaced, line_row, is_space, trim}
 use Rattle.grid.specs.Facts.{ScreenFacts}

@@ -1,29 +1,13 @@
--- What the functions of `line` and of the crates above it are given: a record and its head, a copy of it, and a span. Facts, for `requires`.
+-- What the functions of `line` hand on: the span of a row. Facts, for contracts.
 -- Assumes nothing.
-use Rattle.std.specs.Prelude.{ℕ, ◌≤◌, ◌<◌, ◌≡◌, List, length}
-use Rattle.grid.specs.Layout.{SIZE}
-use Rattle.grid.specs.Screen.{editable}
-use Rattle.grid.specs.Record.{head_of, screen_of}
-use Rattle.grid.specs.Facts.{HeadFacts}
-use Rattle.grid.specs.declared.head.Head.{Head}
+use Rattle.std.specs.Prelude.{ℕ, ◌≤◌, ◌<◌, ◌≡◌}
+use Rattle.grid.specs.Screen.{Screen, editable}
 use Rattle.line.specs.Line.{start_of, end_of}
 
--- the record l, whose head h is valid
-pub record Known (l : List ℕ) (h : Head) : Type 0 where
-  pub size : length l ≡ SIZE
-  pub facts : HeadFacts h
-  pub head : h ≡ head_of l
-
--- a call's work begins: the record rec, its copy old, and their head h
-pub record Begun (rec old : List ℕ) (h : Head) : Type 0 where
-  pub size : length rec ≡ SIZE
-  pub copy : rec ≡ old
-  pub known : Known old h
-
--- start to end is the span of the row in the record l, whose head is h
-pub record SpanIs (l : List ℕ) (h : Head) (row start end : ℕ) : Type 0 where
-  pub first : start ≡ start_of (screen_of l) row
-  pub last : end ≡ end_of (screen_of l) row
+-- start to end is the span of the row in the screen s
+pub record SpanOf (s : Screen) (row start end : ℕ) : Type 0 where
+  pub first : start ≡ start_of s row
+  pub last : end ≡ end_of s row
   pub from : start ≤ row
   pub to : row ≤ end
-  pub inside : end < editable h.keys
+  pub inside : end < editable s.head.keys

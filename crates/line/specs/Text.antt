@@ -1,7 +1,7 @@
--- The values that hold a line's characters: what the contracts say of `Text` (`src/text.rt`) and `Reading` (`src/reading.rt`).
+-- The values that hold a line's characters: what the contracts say of `Text` and `Reading` (`src/text.rt`).
 -- Assumes nothing.
 use Rattle.std.specs.Prelude.{if◌then◌else◌, ℕ, ◌≡◌, List, length, take, drop, eqb}
-use Rattle.grid.specs.Record.{rows_of}
+use Rattle.grid.specs.Screen.{Screen}
 use Rattle.line.specs.Line.{joined}
 use Rattle.line.specs.declared.text.Text.{Text}
 use Rattle.line.specs.declared.text.Reading.{Reading}
@@ -20,9 +20,9 @@ pub record Reads (t : Reading) (cs : List ℕ) : Type 0 where
   pub text : take t.len t.bytes ≡ cs
   pub count : t.len ≡ length cs
 
--- n characters of the record l's rows from start on, w of each. Shut, so that `search` meets it as one call
-unfoldable pub line_from : List ℕ → ℕ → ℕ → ℕ → List ℕ
-line_from l start w n = take n (joined w (drop start (rows_of l)))
+-- n characters of the screen's rows from start on. Shut, so that `search` meets it as one call
+unfoldable pub line_from : Screen → ℕ → ℕ → List ℕ
+line_from s start n = take n (joined s.head.width (drop start s.rows))
 
 -- the cursor's column where it is on the line's last row
 unfoldable pub column_on : ℕ → ℕ → ℕ → ℕ

@@ -1,22 +1,21 @@
-// Splice: the span under the cursor becomes another text, or goes.
-ghost use Rattle.std.specs.Prelude.{◌≡◌, ◌+◌, ◌/◌, ◌%◌, ◌≤◌, ◌<◌};
+// Splice: the line under the cursor becomes another text, or goes.
+ghost use Rattle.std.specs.Prelude.{◌≡◌, ◌+◌, ◌/◌, ◌%◌, ◌≤◌};
 ghost use Rattle.values.specs.Cursor.{at};
-ghost use Rattle.grid.specs.Screen.{editable, with_cursor};
-ghost use Rattle.grid.specs.Facts.{HeadFacts};
-ghost use Rattle.grid.specs.Record.{screen_of, Leaves};
-ghost use Rattle.line.specs.Line.{MAX-LOGICAL};
+ghost use Rattle.grid.specs.Screen.{with_cursor};
+ghost use Rattle.grid.specs.Record.{rows_of, Leaves};
+ghost use Rattle.line.specs.Line.{MAX-LOGICAL, start_of, end_of};
 ghost use Rattle.line.specs.Splice.{splice, without_rows};
-ghost use Rattle.line.specs.Given.{Begun, SpanIs};
 ghost use Rattle.line.specs.Text.{text_of};
 ghost use Rattle.line.specs.Plan.{Count, Laid};
 
+use crate::logical::Line;
 use crate::plan;
 use crate::plan::Plan;
-use crate::span::Span;
 use crate::text::Text;
 use grid::head;
 use grid::head::Head;
 use grid::layout::Record;
+use grid::screen::Screen;
 use values::cursor::Cursor;
 
 // The rows that n characters take with the cursor at i.
@@ -32,35 +31,38 @@ fn rows_for(w: usize, n: usize, i: usize) -> usize
     if i == n && n % w == 0 { k + 1 } else { k }
 }
 
-// The head h with the cursor at index i of a line that the plan has laid.
+// The screen's head with the cursor at index i of a line that the plan has laid.
 #[tactic(auto, using(crate::proofs::SpliceLaws::cursor_fits, crate::proofs::SpliceLaws::head_placed))]
-fn head_in(h: Head, p: Plan, i: usize) -> Head
-    requires { HeadFacts h × Laid p × (i ≤ MAX-LOGICAL) }
-    ensures { result ≡ with_cursor h (at (p.top + i / h.width) (i % h.width)) }
+fn head_in(s: &Screen, p: Plan, i: usize) -> Head
+    requires { Laid p × (i ≤ MAX-LOGICAL) }
+    ensures { result ≡ with_cursor s.now.head (at (p.top + i / s.now.head.width) (i % s.now.head.width)) }
 {
+    let h = s.head;
     h.with_cursor(Cursor::new(p.top + i / h.width, i % h.width))
 }
 
-// Span is that of the cursor's row. The new head is handed back. (A text has at most 255 characters, and its index is among them or behind the
-// last: the Rust cuts both here.)
-#[tactic(auto, using(crate::proofs::SpliceLaws::splice_laid))]
-pub fn splice_logical(rec: &mut Record, old: &Record, h: Head, span: Span, text: Text) -> Head
-    requires { Begun rec.old old.now h × SpanIs old.now h h.cursor.row span.start span.end }
-    ensures { Leaves (splice (screen_of old.now) (text_of text) text.index) rec.old rec.new result }
+// Writes a text in the place of the line, with the cursor at the text's index, and hands the new head back. (A text has at most 255 characters, and its index is
+// among them or behind the last: the Rust cuts both here.)
+#[tactic(auto, using(crate::proofs::SpliceLaws::same_rows, crate::proofs::SpliceLaws::line_laid))]
+pub fn splice_logical(rec: &mut Record, line: &Line, text: Text) -> Head
+    requires { rows_of rec.old ≡ line.now.rows }
+    ensures { Leaves (splice line.now (text_of text) text.index) rec.old rec.new result }
 {
-    let rows = rows_for(h.width, text.len, text.index);
-    let p = plan::plan_of(span, rows, head::editable_rows(h.keys));
-    plan::write_rows(rec, old, p, &text.bytes[..text.len], h.width, h.attr);
-    head_in(h, p, text.index)
+    let s = line.screen;
+    let rows = rows_for(s.head.width, text.len, text.index);
+    let p = plan::plan_of(line.span, rows, head::editable_rows(s.head.keys));
+    plan::write_rows(rec, s, p, &text.bytes[..text.len]);
+    head_in(s, p, text.index)
 }
 
-// The span's rows go, later ones move up, blank rows fill below; the cursor goes to the first column of the span's first row.
-#[tactic(auto, using(crate::proofs::SpliceLaws::removed_laid))]
-pub fn remove_line(rec: &mut Record, old: &Record, h: Head, span: Span) -> Head
-    requires { Begun rec.old old.now h × (span.start ≤ span.end) × (span.end < editable h.keys) }
-    ensures { Leaves (without_rows (screen_of old.now) span.start span.end) rec.old rec.new result }
+// The line's rows go, later ones move up, blank rows fill below; the cursor goes to the first column of its first row.
+#[tactic(auto, using(crate::proofs::SpliceLaws::same_rows, crate::proofs::SpliceLaws::line_laid))]
+pub fn remove_line(rec: &mut Record, line: &Line) -> Head
+    requires { rows_of rec.old ≡ line.now.rows }
+    ensures { Leaves (without_rows line.now (start_of line.now line.now.head.cursor.row) (end_of line.now line.now.head.cursor.row)) rec.old rec.new result }
 {
-    let p = plan::plan_of(span, 0, head::editable_rows(h.keys));
-    plan::write_rows(rec, old, p, &[], h.width, h.attr);
-    h.with_cursor(Cursor::new(span.start, 0))
+    let s = line.screen;
+    let p = plan::plan_of(line.span, 0, head::editable_rows(s.head.keys));
+    plan::write_rows(rec, s, p, &[]);
+    s.head.with_cursor(Cursor::new(line.span.start, 0))
 }

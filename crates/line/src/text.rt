@@ -18,7 +18,7 @@ pub struct Text {
 }
 
 // The characters as they are handed out.
-// Kept so: as `Text`.
+// Kept so: as `Text`; and a struct of its own, since a reading has no cursor index: as a part of `Text` it would make `t.reading.len` of every `t.len`.
 #[derive(Clone, Copy)]
 pub struct Reading {
     pub bytes: [u8; MAX_LOGICAL],

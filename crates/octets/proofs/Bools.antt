@@ -1,8 +1,8 @@
 -- Tests: conjunctions, and a test of each element.
 -- Assumes nothing.
 use Prim.Native.Nat.{ℕ, zero, suc, ◌<◌}
-use mathlib.Core.Path.{◌≡◌, refl, sym, ap, ◌∙◌}
-use mathlib.Core.Bool.{Bool, true, false, ◌&&◌, ◌||◌, and-true, true≢false, not-eq-not}
+use mathlib.Core.Path.{◌≡◌, refl, sym, ◌∙◌}
+use mathlib.Core.Bool.{Bool, true, false, ◌&&◌, true≢false, not-eq-not}
 use mathlib.Core.List.{List, [], ◌∷◌, ◌++◌}
 use mathlib.Core.Logic.{◌↔◌, ◌⊎◌, inl, inr, ⊎_elim}
 use native.Mathlib.Nat.{le_of_suc-le-suc, not-suc-le-zero}
@@ -11,6 +11,8 @@ use lib.ListN.{length, get_or, take, drop, set, replicate}
 use borrow.Author.Tests.{eqb-true, lt-ltb, le-ltb, le-leb, lt-leb, eq-eqb, ne_eqb}
 use Rattle.std.specs.Prelude.{if◌then◌else◌}
 use Rattle.octets.specs.Test.{every}
+use Rattle.std.proofs.lemmas.Bool.{cond-true, cond-false}
+pub use Rattle.std.proofs.lemmas.Bool.{and_from as and_both}
 
 pub and_left : (a b : Bool) → a && b ≡ true → a ≡ true
 and_left true b e = refl
@@ -20,9 +22,6 @@ pub and_right : (a b : Bool) → a && b ≡ true → b ≡ true
 and_right true b e = e
 and_right false b e = absurd (true≢false (sym e))
 
-pub and_both : (a b : Bool) → a ≡ true → b ≡ true → a && b ≡ true
-and_both a b p q = rw p q
-
 pub and_false : (a b : Bool) → b ≡ false → a && b ≡ false
 and_false true b e = e
 and_false false b e = refl
@@ -30,27 +29,12 @@ and_false false b e = refl
 pub left_false : (a b : Bool) → a ≡ false → a && b ≡ false
 left_false a b e = rw e
 
-pub and_cases : (a b : Bool) → a && b ≡ false → (a ≡ false) ⊎ (b ≡ false)
-and_cases true b e = inr e
-and_cases false b e = inl refl
-
 -- what a test says is not so exactly when the test fails
 pub fails : (A : Type 0) (b : Bool) → (b ≡ true → A) → (A → b ≡ true) → (¬ A) ↔ (b ≡ false)
 fails A b f g = (λ n. (not-eq-not {b = false}).0 (λ e. n (f e)), λ e a. true≢false (sym (g a) ∙ e))
 
 -- takes a conjunction of tests apart, and puts it together
 pub ruleset tests = (and_left, and_right, and_both, eqb-true, eq-eqb)
-
-pub or_cases : (a b : Bool) → a || b ≡ true → (a ≡ true) ⊎ (b ≡ true)
-or_cases true b e = inl refl
-or_cases false b e = inr e
-
-pub or_left : (a b : Bool) → a ≡ true → a || b ≡ true
-or_left a b e = rw e
-
-pub or_right : (a b : Bool) → b ≡ true → a || b ≡ true
-or_right true b e = refl
-or_right false b e = e
 
 -- THE LAW of a choice: what both answers have, each under its test, the choice has
 pub cases : {A : Type 0} (P : A → Type 0) (b : Bool) (x y : A) → (b ≡ true → P x) → (b ≡ false → P y) → P (if b then x else y)
@@ -60,18 +44,12 @@ cases P false x y f g = g refl
 pub either : {A : Type 0} (P : A → Type 0) (b : Bool) (x y : A) → P x → P y → P (if b then x else y)
 either P b x y f g = cases P b x y (λ e. f) (λ e. g)
 
-pub pick : {A : Type 0} (b : Bool) (x y : A) → b ≡ true → (if b then x else y) ≡ x
-pick b x y e = rw e
-
-pub skip : {A : Type 0} (b : Bool) (x y : A) → b ≡ false → (if b then x else y) ≡ y
-skip b x y e = rw e
-
 -- what the code answers is the choice that the definition makes: `search (rules, choice)`, with the definition on the `unfolding` line
 pub picked : {A : Type 0} (b : Bool) (x y z : A) → b ≡ true → x ≡ y → x ≡ (if b then y else z)
-picked b x y z e h = h ∙ sym (pick b y z e)
+picked b x y z e h = h ∙ sym (cond-true b y z e)
 
 pub skipped : {A : Type 0} (b : Bool) (x y z : A) → b ≡ false → x ≡ z → x ≡ (if b then y else z)
-skipped b x y z e h = h ∙ sym (skip b y z e)
+skipped b x y z e h = h ∙ sym (cond-false b y z e)
 
 pub ruleset choice = (picked, skipped, lt-ltb, le-ltb, le-leb, lt-leb, eq-eqb, ne_eqb)
 
@@ -86,10 +64,6 @@ module _ {ℓ} {A : Type ℓ} (p : A → Bool) where
       step : (b : Bool) → every p (xs ++ ys) ≡ every p xs && every p ys → b && every p (xs ++ ys) ≡ b && every p xs && every p ys
       step true e = e
       step false e = refl
-
-  pub every_snoc : (xs : List A) (x : A) → every p (xs ++ (x ∷ [])) ≡ every p xs && p x
-  unfolding every
-  every_snoc xs x = every_append xs (x ∷ []) ∙ ap (λ (b : Bool). every p xs && b) (and-true (p x))
 
   pub every_both : (xs ys : List A) → every p xs ≡ true → every p ys ≡ true → every p (xs ++ ys) ≡ true
   every_both xs ys e f = every_append xs ys ∙ and_both _ _ e f
@@ -131,13 +105,6 @@ module _ {ℓ} {A : Type ℓ} (p : A → Bool) where
   every_set [] i x e h = refl
   every_set (y ∷ xs) zero x e h = rw h (and_right (p y) (every p xs) e)
   every_set (y ∷ xs) (suc i) x e h = rw (and_left (p y) (every p xs) e) (every_set xs i x (and_right (p y) (every p xs) e) h)
-
-  -- one element does not pass
-  pub every_not : (xs : List A) (i : ℕ) (d : A) → i < length xs → p (get_or xs i d) ≡ false → every p xs ≡ false
-  unfolding every
-  every_not [] i d h e = absurd (not-suc-le-zero h)
-  every_not (x ∷ xs) zero d h e = rw e
-  every_not (x ∷ xs) (suc i) d h e = and_false (p x) (every p xs) (every_not xs i d (le_of_suc-le-suc h) e)
 
 pub and_fails : (a b : Bool) → a && b ≡ false → (a ≡ false) ⊎ ((a ≡ true) × (b ≡ false))
 and_fails true b e = inr (refl, e)

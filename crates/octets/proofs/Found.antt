@@ -15,7 +15,8 @@ use Rattle.octets.specs.Answer.{refused, number_of, Written, Writes, unless, is_
 use Rattle.octets.specs.declared.answer.Refusal.{Refusal}
 use Rattle.octets.specs.declared.answer.Refusal.TheVariants.{WrongLength, BrokenLayout, OutOfRange, SpentSerial, BrokenReport, WidthWithoutRows, LongInput, SplitLineEnd}
 use Rattle.octets.specs.Refusals.{order, place_in, Before, Refuses, first_of, all_pass, or_else}
-use Rattle.octets.proofs.Bools.{and_left, and_right, and_both, cases, pick, skip}
+use Rattle.std.proofs.lemmas.Bool.{cond-true as pick, cond-false as skip}
+use Rattle.octets.proofs.Bools.{and_left, and_right, and_both, cases}
 
 -- ---- the order
 

@@ -2,13 +2,15 @@
 -- Assumes nothing.
 use Prim.Native.Nat.{ℕ, ◌+◌, ◌*◌, ◌/◌, ◌%◌, ◌≤◌, ◌<◌}
 use mathlib.Core.Path.{◌≡◌}
-use mathlib.Core.Bool.{true}
+use mathlib.Core.Bool.{true, ◌&&◌}
 use mathlib.Core.List.{List, [], ◌∷◌}
 use native.Mathlib.Nat.{div-add-mod'}
 use native.Mathlib.Omega.{arith}
+use native.Mathlib.Decide.{ℕ_discrete}
+use lib.Dec.{eqb}
 use lib.ListN.{length, get_or}
 use lib.Pow.{shr-shr}
-use borrow.Author.Tests.{ltb-true}
+use borrow.Author.Tests.{ltb-true, eq-eqb, ne_eqb}
 use Rattle.octets.specs.Test.{every, is_byte}
 use Rattle.octets.specs.Number.{number4, bytes4, number2, four_at, bytes2}
 use Rattle.octets.proofs.Bools.{every_at}
@@ -39,6 +41,22 @@ four_back a b c d ha hb hc hd =
     let e₂ : n / 65536 ≡ a * 256 + b = omega arith in
     let e₃ : n / 16777216 ≡ a = omega arith in
     (rw e₃ (omega arith), rw e₂ (omega arith), rw e₁ (omega arith), omega arith)
+
+-- the two bytes of what sixteen bits hold of a number
+pub bytes_cut : (n : ℕ) → n % 65536 / 256 ∷ n % 65536 % 256 ∷ [] ≡ bytes2 n
+bytes_cut n =
+    let high : n % 65536 / 256 ≡ n / 256 % 256 = omega arith in
+    let low : n % 65536 % 256 ≡ n % 256 = omega arith in
+    λ i. high i ∷ low i ∷ []
+
+-- a test of the number in two bytes is a test of each
+pub two_tested : (a b n : ℕ) → b < 256 → eqb (number2 a b) n ≡ eqb a (n / 256) && eqb b (n % 256)
+two_tested a b n hb = go (ℕ_discrete a (n / 256)) (ℕ_discrete b (n % 256))
+  where
+    go : Dec (a ≡ n / 256) → Dec (b ≡ n % 256) → eqb (number2 a b) n ≡ eqb a (n / 256) && eqb b (n % 256)
+    go (yes p) (yes q) = rw (eq-eqb a (n / 256) p, eq-eqb b (n % 256) q) (eq-eqb (number2 a b) n (omega arith))
+    go (yes p) (no q) = rw (eq-eqb a (n / 256) p, ne_eqb b (n % 256) q) (ne_eqb (number2 a b) n (λ e. q (omega arith)))
+    go (no p) t = rw (ne_eqb a (n / 256) p) (ne_eqb (number2 a b) n (λ e. p (omega arith)))
 
 pub whole2 : (n : ℕ) → n < 65536 → n / 256 % 256 * 256 + n % 256 ≡ n
 whole2 n h = omega arith

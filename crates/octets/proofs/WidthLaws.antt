@@ -8,7 +8,7 @@ use native.Mathlib.Omega.{arith}
 use lib.Dec.{eqb}
 use borrow.Author.Tests.{eqb-true}
 use Rattle.octets.specs.Width.{widthb}
-use Rattle.octets.proofs.Bools.{or_cases}
+use Rattle.std.proofs.lemmas.Bool.{or_cases}
 
 pub width_cases : (w : ℕ) → widthb w ≡ true → (w ≡ 40) ⊎ (w ≡ 80)
 width_cases w e = ⊎_elim (λ q. inl (eqb-true w 40 q)) (λ q. inr (eqb-true w 80 q)) (or_cases (eqb w 40) (eqb w 80) e)

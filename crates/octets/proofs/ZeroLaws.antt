@@ -6,8 +6,7 @@ use mathlib.Core.Bool.{Bool, true, ◌&&◌, and-true}
 use mathlib.Core.List.{List, [], ◌∷◌}
 use native.Mathlib.Omega.{arith}
 use lib.ListN.{length, get_or}
-use lib.Dec.{eqb}
-use Rattle.octets.specs.Test.{every, zerob}
+use Rattle.octets.specs.Test.{every}
 use Rattle.octets.specs.Part.{window}
 use Rattle.std.proofs.Math.Bool.{and_assoc}
 use Rattle.std.specs.List.{fold}
@@ -34,8 +33,3 @@ fold_every p b (x ∷ xs) = fold_every p (b && p x) xs ∙ and_assoc b (p x) (ev
 
 pub every_passes : (p : ℕ → Bool) (xs : List ℕ) (r : Bool) → r ≡ fold (λ (all : Bool) (x : ℕ). all && p x) true xs → r ≡ every p xs
 every_passes p xs r e = e ∙ fold_every p true xs
-
--- as the code tests each
-pub zeros_pass : (xs : List ℕ) (r : Bool) → r ≡ fold (λ (all : Bool) (x : ℕ). all && eqb x 0) true xs → r ≡ every zerob xs
-unfolding zerob
-zeros_pass xs r e = every_passes zerob xs r e

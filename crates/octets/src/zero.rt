@@ -1,21 +1,17 @@
-// Bytes that must be zero.
-ghost use Rattle.std.specs.Prelude.{true, ◌&&◌, ◌≡◌, ◌+◌, ◌≤◌, length, eqb};
-ghost use Rattle.std.specs.List.{fold};
+// Tests of each byte, and bytes that must be zero.
+ghost use Rattle.std.specs.Prelude.{ℕ, Bool, ◌≡◌};
 ghost use Rattle.octets.specs.Test.{zerob, every};
-ghost use Rattle.octets.specs.Part.{window};
 
-// All bytes are looked at, with no early way out, so that it is compiled to vector instructions.
-fn zeros(bytes: &[u8]) -> bool
-    ensures { result ≡ fold (λ all c. all && eqb c 0) true bytes.now }
+// Do all bytes pass, whatever test p it is? All are looked at, with no early way out, so that it is compiled to vector instructions.
+pub fn all_pass<F: Fn(u8) -> bool>(bytes: &[u8], test: F) -> bool
+    requires { (c : ℕ) → F.pre test c }
+    ensures { (p : ℕ → Bool) → ((c : ℕ) (b : Bool) → F.post test c b → b ≡ p c) → result ≡ every p bytes.now }
 {
-    bytes.iter().fold(true, |all, c| all & (*c == 0))
+    bytes.iter().fold(true, |all, c| all & test(*c))
 }
 
-// Are the n bytes from index at on zero?
-#[tactic(auto, using(crate::proofs::PartLaws::part_window, crate::proofs::ZeroLaws::zeros_pass))]
-pub fn all_zero(rec: &[u8], at: usize, n: usize) -> bool
-    requires { at + n ≤ length rec.now }
-    ensures { result ≡ every zerob (window rec.now at n) }
+pub fn all_zero(bytes: &[u8]) -> bool
+    ensures { result ≡ every zerob bytes.now }
 {
-    zeros(&rec[at..at + n])
+    all_pass(bytes, |c| c == 0)
 }

@@ -4,9 +4,10 @@ use Prim.Native.Nat.{ℕ, zero, suc, ◌+◌, ◌-◌, ◌*◌, ◌/◌, ◌≤�
 use mathlib.Core.Path.{◌≡◌, refl, sym, ap, ap₂, ◌∙◌}
 use mathlib.Core.Bool.{Bool, true, false, ◌&&◌, true≢false}
 use mathlib.Core.Bool
-use mathlib.Core.List.{List}
+use mathlib.Core.List.{List, [], ◌∷◌, map}
+use mathlib.Core.Logic.{⊎_elim}
 use native.Mathlib.Omega.{arith}
-use lib.Dec.{leb, eqb}
+use lib.Dec.{eqb}
 use lib.ListN.{length, get_or, take, drop, length-drop}
 use lib.Seq.{take_all, drop-drop, get_or-drop, get_or-take}
 use lib.Count.{ones}
@@ -17,10 +18,10 @@ use Rattle.std.specs.List.{list_all}
 use Rattle.std.specs.Simd.{first_chunks}
 use Rattle.octets.specs.Number.{number2}
 use Rattle.octets.specs.Part.{window}
-use Rattle.octets.specs.Test.{every, zerob}
+use Rattle.octets.specs.Test.{every}
 use Rattle.octets.proofs.Bools.{and_left, and_right}
-use Rattle.octets.proofs.PartLaws.{length_window, take_window, drop_window, window_window}
-use Rattle.grid.specs.Screen.{Row, printable, valid_head, valid_row}
+use Rattle.octets.proofs.PartLaws.{window_window}
+use Rattle.grid.specs.Screen.{Row, valid_head, valid_row}
 use Rattle.grid.specs.Record.{row_from}
 use Rattle.grid.specs.declared.head.Head.{Head}
 use Rattle.grid.proofs.Validity.{head_facts}
@@ -43,21 +44,6 @@ front_told b e = simp (eq-eqb (get_or b KIND 0) (kind_byte (read_front b).kind) 
 pub front_length : (b : List ℕ) → frontb b ≡ true → length b ≡ report_length (read_front b).kind (read_front b).mask
 unfolding frontb
 front_length b t = eqb-true (length b) (report_length (read_front b).kind (read_front b).mask) (search (and_left, and_right))
-
--- ---- a row, from index a on, at the width w
-
-pub row_test : (b : List ℕ) (a w : ℕ) → a + ROW-SIZE ≤ length b → w ≤ 80 → valid_row w (row_in b a)
-    ≡ leb (get_or b a 0) 1 && every printable (window b (a + 1) w) && every zerob (window b (a + 1 + w) (80 - w))
-    && every zerob (window b (a + 1 + 80 + w) (80 - w))
-unfolding valid_row row_in row_from
-row_test b a w len wide =
-    rw (
-      eq-eqb (length (window b (a + 1) 80)) 80 (length_window b (a + 1) 80 (omega arith)),
-      eq-eqb (length (window b (a + 1 + 80) 80)) 80 (length_window b (a + 1 + 80) 80 (omega arith)),
-      take_window b (a + 1) w 80 wide,
-      drop_window b (a + 1) w 80,
-      drop_window b (a + 1 + 80) w 80,
-    )
 
 -- ---- the rows, one after the other
 
@@ -97,13 +83,17 @@ row_alone b h =
     let d = window_window b 0 81 ROW-SIZE 80 (omega arith) h in
     λ i. record { flag = f i; chars = c i; attrs = d i }
 
--- the rows that fill the slice, each tested in its own part of it
-rows_apart : (w n : ℕ) (b : List ℕ) → length b ≡ ROW-SIZE * n
-    → list_all (λ (row : List ℕ). valid_row w (row_in row 0)) (first_chunks ROW-SIZE n b) ≡ every (valid_row w) (carried_rows n b)
-unfolding every carried_rows
-rows_apart w zero b h = refl
-rows_apart w (suc n) b h =
-    ap₂ (λ (x : Row) (t : Bool). valid_row w x && t) (row_alone b (omega arith)) (rows_apart w n (drop ROW-SIZE b) (omega (arith, length-drop ROW-SIZE b)))
+-- the rows that fill the slice, each read in its own part of it
+pub rows_apart : (n : ℕ) (b : List ℕ) → length b ≡ ROW-SIZE * n → map (λ (row : List ℕ). row_in row 0) (first_chunks ROW-SIZE n b) ≡ carried_rows n b
+unfolding carried_rows
+rows_apart zero b h = refl
+rows_apart (suc n) b h = ap₂ (λ (x : Row) (xs : List Row). x ∷ xs) (row_alone b (omega arith)) (rows_apart n (drop ROW-SIZE b) (omega (arith, length-drop ROW-SIZE b)))
+
+-- and each tested
+rows_tested : (w : ℕ) (cs : List (List ℕ)) → list_all (λ (row : List ℕ). valid_row w (row_in row 0)) cs ≡ every (valid_row w) (map (λ (row : List ℕ). row_in row 0) cs)
+unfolding every
+rows_tested w [] = refl
+rows_tested w (c ∷ cs) = ap (λ (t : Bool). valid_row w (row_in c 0) && t) (rows_tested w cs)
 
 -- ---- the whole
 
@@ -121,8 +111,9 @@ pub head_passes : (b : List ℕ) → reportb b ≡ true → valid_head (read_fro
 unfolding reportb read_report
 head_passes b t = search (and_left, and_right)
 
-pub head_width : (h : Head) → true ≡ valid_head h → h.width ≤ 80
-head_width h t = (head_facts h (sym t)).width_to
+-- there are two widths
+pub other_width : (h : Head) → true ≡ valid_head h → (h.width ≡ 40 → ⊥) → h.width ≡ 80
+other_width h t n = ⊎_elim (λ (q : h.width ≡ 40). absurd (n q)) (λ (q : h.width ≡ 80). q) (head_facts h (sym t)).widths
 
 pub report_told : (b : List ℕ) → true ≡ frontb b → let d = drop (rows_at (read_front b).kind) b in reportb b
     ≡ valid_head (read_front b).head && list_all (λ (row : List ℕ). valid_row (read_front b).head.width (row_in row 0)) (first_chunks ROW-SIZE (length d / ROW-SIZE) d)
@@ -132,18 +123,18 @@ report_told b t =
     let d : List ℕ = drop (rows_at f.kind) b in
     let size : length d ≡ ROW-SIZE * ones f.mask = omega (arith, front_length b (sym t), length-drop (rows_at f.kind) b) in
     let n : length d / ROW-SIZE ≡ ones f.mask = omega (arith, size) in
-    rw (sym t, n) (ap (λ (r : Bool). valid_head f.head && r) (sym (rows_apart f.head.width (ones f.mask) d size)))
+    rw (sym t, n, rows_tested f.head.width, rows_apart (ones f.mask) d size)
 
--- t is what the test of the rows from index a on has answered
-pub found : (b : List ℕ) (f : Front) (a : ℕ) (rows : List (List ℕ)) (t : Bool) → f ≡ read_front b → true ≡ frontb b → true ≡ valid_head f.head → a ≡ rows_at f.kind
+-- t is what the test of the rows from index a on has answered, at the width w
+pub found : (b : List ℕ) (f : Front) (a w : ℕ) (rows : List (List ℕ)) (t : Bool) → f ≡ read_front b → true ≡ frontb b → true ≡ valid_head f.head → a ≡ rows_at f.kind
     → let d = take (length b - a) (drop a b) in rows ≡ first_chunks ROW-SIZE (length d / ROW-SIZE) d
-    → t ≡ list_all (λ (row : List ℕ). valid_row f.head.width (row_in row 0)) rows → SomeIff (then_some t f) (IsTrue (reportb b)) (read_front b)
-found b f a rows t ef ep eh ea er et =
+    → f.head.width ≡ w → t ≡ list_all (λ (row : List ℕ). valid_row w (row_in row 0)) rows → SomeIff (then_some t f) (IsTrue (reportb b)) (read_front b)
+found b f a w rows t ef ep eh ea er ew et =
     let whole : take (length b - a) (drop a b) ≡ drop a b = take_all (length b - a) (drop a b) (omega (arith, length-drop a b)) in
     let k : a ≡ rows_at (read_front b).kind = ea ∙ ap (λ (g : Front). rows_at g.kind) ef in
     let h : valid_head (read_front b).head ≡ true = sym (eh ∙ ap (λ (g : Front). valid_head g.head) ef) in
     let e : t ≡ reportb b =
-    et ∙ ap₂ (λ (g : Front) (c : List (List ℕ)). list_all (λ (row : List ℕ). valid_row g.head.width (row_in row 0)) c) ef (rw (whole, k) at er)
+    et ∙ ap₂ (λ (x : ℕ) (c : List (List ℕ)). list_all (λ (row : List ℕ). valid_row x (row_in row 0)) c) (sym ew ∙ ap (λ (g : Front). g.head.width) ef) (rw (whole, k) at er)
     ∙ sym (rw (report_told b ep, h)) in
     go t e
   where

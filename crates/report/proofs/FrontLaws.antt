@@ -1,12 +1,12 @@
 -- `front`: what the front of a report is where it is made and written.
 -- Assumes nothing.
-use Prim.Native.Nat.{ℕ, zero, ◌/◌, ◌%◌, ◌≤◌}
+use Prim.Native.Nat.{ℕ, zero, ◌≤◌}
 use mathlib.Core.Path.{◌≡◌, ap, ◌∙◌, subst}
 use mathlib.Core.List.{List, ◌++◌}
 use native.Mathlib.Omega.{arith}
 use lib.ListN.{length, drop, set}
 use Rattle.octets.specs.Part.{write}
-use Rattle.octets.specs.Number.{bytes4}
+use Rattle.octets.specs.Number.{bytes2, bytes4}
 use Rattle.octets.proofs.PartLaws.{write_none}
 use Rattle.grid.specs.Record.{head_of, head_bytes, stamp_of, read_state}
 use Rattle.grid.specs.Facts.{Valid}
@@ -39,14 +39,14 @@ front_made kind l s h mask v es eh em =
 -- ---- written
 
 -- n is the length, k the byte of the kind
-pub fronted : (l m₁ m₂ m₃ : List ℕ) (f : Front) (n k : ℕ) → n ≡ report_length f.kind f.mask → k ≡ kind_byte f.kind → LONGEST ≤ length l
+pub fronted : (l m₁ m₂ m₃ m₄ : List ℕ) (f : Front) (n k : ℕ) → n ≡ report_length f.kind f.mask → k ≡ kind_byte f.kind → LONGEST ≤ length l
     → m₁ ≡ write l REPORT-PAIR (pair_bytes f.pair) → m₂ ≡ write m₁ MASK (bytes4 f.mask) → m₃ ≡ write m₂ HEAD (head_bytes f.head)
-    → set (set (set (set m₃ 0 (n / 256 % 256)) 1 (n % 256)) 2 REPORT-VERSION) KIND k ≡ report_front f ++ drop (rows_at f.kind) l
+    → m₄ ≡ write m₃ 0 (bytes2 n) → set (set m₄ 2 REPORT-VERSION) KIND k ≡ report_front f ++ drop (rows_at f.kind) l
 unfolding write report_front
-fronted l m₁ m₂ m₃ f n k en ek len e₁ e₂ e₃ =
+fronted l m₁ m₂ m₃ m₄ f n k en ek len e₁ e₂ e₃ e₄ =
     let z : drop (rows_at f.kind) l ≡ drop ROWS l = ap (λ (i : ℕ). drop i l) (rows_at_kind f.kind) in
-    rw (e₃, e₂, e₁, en, ek, z)
+    rw (e₄, e₃, e₂, e₁, en, ek, z)
     (subst
-    (λ (z : List ℕ). set (set (set (set (write (write (write z REPORT-PAIR (pair_bytes f.pair)) MASK (bytes4 f.mask)) HEAD (head_bytes f.head)) 0 (report_length f.kind f.mask / 256 % 256)) 1 (report_length f.kind f.mask % 256)) 2 REPORT-VERSION) KIND (kind_byte f.kind) ≡ report_front f ++ drop ROWS l)
+    (λ (z : List ℕ). set (set (write (write (write (write z REPORT-PAIR (pair_bytes f.pair)) MASK (bytes4 f.mask)) HEAD (head_bytes f.head)) 0 (bytes2 (report_length f.kind f.mask))) 2 REPORT-VERSION) KIND (kind_byte f.kind) ≡ report_front f ++ drop ROWS l)
     (heads_eq ROWS 0 l (omega arith))
     (rw (write_none (drop ROWS l) zero)))

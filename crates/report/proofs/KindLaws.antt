@@ -6,7 +6,7 @@ use mathlib.Core.Bool.{true}
 use native.Mathlib.Omega.{arith}
 use lib.Dec.{eqb}
 use borrow.Author.Tests.{ltb-true, eqb-true, eq-eqb, ne_eqb}
-use Rattle.octets.proofs.Bools.{pick, skip}
+use Rattle.std.proofs.lemmas.Bool.{cond-true as pick, cond-false as skip}
 use Rattle.grid.specs.Layout.{MASKS}
 use Rattle.report.specs.Layout.{ROWS, STEP, FULL, ALL-ROWS}
 use Rattle.report.specs.declared.kind.Kind.{Kind}

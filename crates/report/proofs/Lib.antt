@@ -6,5 +6,6 @@ pub mod FrontLaws
 pub mod CheckLaws
 pub mod Conditions
 pub mod RoundTrips
+pub mod RowLaws
 pub mod ReportLaws
 pub mod Refusals

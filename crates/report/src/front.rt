@@ -75,12 +75,10 @@ impl Front {
         requires { (LONGEST ≤ length out.old) × HeadFits self.head }
         ensures { out.new ≡ report_front self ++ drop (rows_at self.kind) out.old }
     {
-        let n = self.report_length();
         pair::put_pair(out, REPORT_PAIR, self.pair);
         number::put4(out, MASK, self.mask);
         head::put_head(out, HEAD, self.head);
-        out[0] = (n / 256 % 256) as u8;
-        out[1] = (n % 256) as u8;
+        number::put2(out, 0, self.report_length());
         out[2] = REPORT_VERSION;
         out[KIND] = u8::from(self.kind);
     }

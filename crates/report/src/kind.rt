@@ -65,6 +65,7 @@ impl Kind {
     }
 
     // Where the rows of a report begin.
+    // Kept so: an arm for each kind, since this is the one place that says it, and a kind to come has more before its rows (docs/DECISIONS.md).
     pub fn rows_at(self) -> usize
         ensures { result ≡ rows_at self }
     {

@@ -9,3 +9,4 @@ pub mod front;
 pub mod kind;
 pub mod layout;
 pub mod report;
+pub mod row;

@@ -1,54 +1,34 @@
 // The report calls: a report of a record, written to a lent output.
-ghost use Rattle.std.specs.Prelude.{◌≡◌, ◌+◌, ◌*◌, ◌≤◌, ◌<◌, length};
-ghost use Rattle.octets.specs.Answer.{Writes, answered};
-ghost use Rattle.octets.specs.Part.{write};
-ghost use Rattle.grid.specs.Record.{row_of, rows_of};
+ghost use Rattle.std.specs.Prelude.{◌≡◌, ◌*◌, ◌≤◌, length};
+ghost use Rattle.octets.specs.Answer.{Writes, answered, over};
+ghost use Rattle.grid.specs.Record.{rows_of};
 ghost use Rattle.report.specs.Layout.{ROW-SIZE};
 ghost use Rattle.report.specs.declared.kind.Kind.TheVariants.{Step, Full};
-ghost use Rattle.report.specs.Report.{row_bytes, carried_bytes, reporting};
+ghost use Rattle.report.specs.Report.{carried_bytes, reporting};
 ghost use Rattle.report.specs.Carried.{carry, bits};
-ghost use Rattle.report.specs.Parts.{Carries};
 
 use crate::front::Front;
 use crate::kind::Kind;
 use crate::layout::{LONGEST, ROW_SIZE};
-use grid::layout::{Record, SCREEN_ROWS, STRIDE};
+use crate::row::write_row;
+use grid::layout::{Record, SCREEN_ROWS};
 use grid::refusal::record;
-use grid::row;
+use grid::row::Row;
 use octets::answer::Refusal;
 use values::mask;
 
-// Writes the row r from index at on: flag, characters, attributes.
-#[tactic(auto, using(crate::proofs::ReportLaws::row_written))]
-fn write_row(out: &mut [u8], at: usize, rec: &Record, r: usize)
-    requires { (r < 25) × (at + ROW-SIZE ≤ length out.old) }
-    ensures { out.new ≡ write out.old at (row_bytes (row_of rec.now r)) }
+// Writes the rows of the mask, lowest first.
+// Kept so: the place goes on only at a row of the mask, so that no two of one length go beside each other.
+fn carry_rows(out: &mut [u8], rec: &Record, mask: u32)
+    requires { ROW-SIZE * 25 ≤ length out.old }
+    ensures { out.new ≡ over (carried_bytes (carry (bits 25 mask) (rows_of rec.now))) out.old }
 {
-    out[at] = row::flag_at(rec, r);
-    row::copy_chars(out, at + 1, rec, r, STRIDE);
-    row::copy_attrs(out, at + 1 + STRIDE, rec, r, STRIDE);
-}
-
-// The same if the mask has the row. Answers the index behind what is written.
-fn carry_row(out: &mut [u8], at: usize, rec: &Record, mask: u32, r: usize) -> usize
-    requires { (r < 25) × (at + ROW-SIZE ≤ length out.old) }
-    ensures { Carries rec.now mask r at out.old out.new result }
-{
-    if !mask::has_row(mask, r) {
-        return at;
-    }
-    write_row(out, at, rec, r);
-    at + ROW_SIZE
-}
-
-// Writes the rows of the mask, lowest first, from index from on.
-fn carry_rows(out: &mut [u8], from: usize, rec: &Record, mask: u32)
-    requires { (from + ROW-SIZE * 25 ≤ length out.old) }
-    ensures { out.new ≡ write out.old from (carried_bytes (carry (bits 25 mask) (rows_of rec.now))) }
-{
-    let mut at = from;
+    let mut at = 0;
     for r in 0..SCREEN_ROWS {
-        at = carry_row(out, at, rec, mask, r);
+        if mask::has_row(mask, r) {
+            write_row(&mut out[at..at + ROW_SIZE], &Row::of(rec, r));
+            at += ROW_SIZE;
+        }
     }
 }
 
@@ -59,11 +39,13 @@ fn report(rec: &[u8], out: &mut [u8], kind: Kind) -> Result<u32, Refusal>
     let rec = record(rec, out.len() >= LONGEST)?;
     let f = Front::of(rec, kind);
     f.write(out);
-    carry_rows(out, f.kind.rows_at(), rec, f.mask);
+    carry_rows(&mut out[f.kind.rows_at()..], rec, f.mask);
+    // Kept so: a cast, since no `From` leads from usize to u32, and `try_from` would have a case that never comes.
     Ok(f.report_length() as u32)
 }
 
 // The rows that the last call touched.
+// Kept so: this and `report_full` are two names of one call, as C has them.
 pub fn report_step(rec: &[u8], out: &mut [u8]) -> Result<u32, Refusal>
     ensures { Writes (reporting Step rec.now out.old) (answered result) out.new }
 {

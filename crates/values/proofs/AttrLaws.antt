@@ -8,12 +8,12 @@ use lib.Bits.{bit_and, bit_or, and_mask, or_shifted}
 use Rattle.values.specs.declared.attr.Attr.{Attr}
 use Rattle.values.specs.Attr.{attr_of, byte_of}
 
--- `Attr::new`
+-- an attribute from a byte
 pub attr_split : (b : ℕ) → ◌≡◌ {A = Attr} (record { foreground = bit_and b 15; background = b / 16 }) (attr_of b)
 unfolding attr_of
 attr_split b = λ i. record { foreground = and_mask b 4 i; background = b / 16 }
 
--- `Attr::byte`
+-- a byte from an attribute
 pub attr_joined : (a : Attr) → bit_or (bit_and a.background 15 * 16 % 256) (bit_and a.foreground 15) ≡ byte_of a
 unfolding byte_of
 attr_joined a =

@@ -19,6 +19,7 @@ impl Attr {
 impl From<u8> for Attr {
     ghost from_gives = { λ byte attr. attr ≡ attr_of byte };
 
+    #[tactic(auto, using(crate::proofs::AttrLaws::attr_split))]
     fn from(byte: u8) -> Attr {
         Attr {
             foreground: byte & 15,
@@ -30,6 +31,7 @@ impl From<u8> for Attr {
 impl From<Attr> for u8 {
     ghost from_gives = { λ attr byte. byte ≡ byte_of attr };
 
+    #[tactic(auto, using(crate::proofs::AttrLaws::attr_joined))]
     fn from(attr: Attr) -> u8 {
         ((attr.background & 15) << 4) | (attr.foreground & 15)
     }

@@ -1,4 +1,6 @@
 // The cursor, and its moves in w columns and e rows: each hands the new cursor back.
+// Kept so: w and e stand as numbers beside the cursor, and what they have to be at each move: these are public functions, and a type of (w, e) would ask more of
+// who calls.
 ghost use Rattle.std.specs.Prelude.{◌≡◌, ◌<◌};
 ghost use Rattle.values.specs.Cursor.{at, left, right, up, down, clamp};
 
@@ -18,6 +20,7 @@ impl Cursor {
     }
 
     // Over the row's start to the row above.
+    #[tactic(auto, using(octets::proofs::Bools::choice), unfolding(crate::specs::Cursor::left))]
     pub fn left(self, w: usize) -> Cursor
         requires { 0 < w }
         ensures { result ≡ left w self }
@@ -38,6 +41,7 @@ impl Cursor {
     }
 
     // Over the row's end to the row below.
+    #[tactic(auto, using(octets::proofs::Bools::choice), unfolding(crate::specs::Cursor::right))]
     pub fn right(self, w: usize, e: usize) -> Cursor
         requires { (self.col < w) × (self.row < e) }
         ensures { result ≡ right w e self }
@@ -57,6 +61,7 @@ impl Cursor {
         self
     }
 
+    #[tactic(auto, using(octets::proofs::Bools::choice), unfolding(crate::specs::Cursor::up))]
     pub fn up(self) -> Cursor
         ensures { result ≡ up self }
     {
@@ -69,6 +74,7 @@ impl Cursor {
         self
     }
 
+    #[tactic(auto, using(octets::proofs::Bools::choice), unfolding(crate::specs::Cursor::down))]
     pub fn down(self, e: usize) -> Cursor
         requires { self.row < e }
         ensures { result ≡ down e self }
@@ -84,6 +90,7 @@ impl Cursor {
     }
 
     // The nearest place.
+    #[tactic(auto, using(crate::proofs::CursorLaws::cursor_eq), unfolding(crate::specs::Cursor::clamp))]
     pub fn clamp(self, w: usize, e: usize) -> Cursor
         requires { (0 < w) × (0 < e) }
         ensures { result ≡ clamp w e self }

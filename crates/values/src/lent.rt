@@ -1,4 +1,5 @@
-// The four arrows on a cursor that is lent by `&mut`, in w columns and e rows, as the Rust has them. All four take w and e, needed or not, so that a caller may choose among them.
+// The four arrows on a cursor that is lent by `&mut`, in w columns and e rows.
+// Kept so: they are public names of the Rust. All four take w and e, needed or not, so that a caller may choose among them.
 ghost use Rattle.std.specs.Prelude.{◌≡◌, ◌<◌};
 ghost use Rattle.values.specs.Cursor.{left, right, up, down};
 

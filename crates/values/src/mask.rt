@@ -2,6 +2,7 @@
 ghost use Rattle.std.specs.Prelude.{◌≡◌, ◌<◌};
 ghost use Rattle.values.specs.Mask.{has_row, WithRow};
 
+#[tactic(auto, using(crate::proofs::MaskLaws::row_tested))]
 pub fn has_row(mask: u32, r: usize) -> bool
     requires { r < 32 }
     ensures { result ≡ has_row mask r }

@@ -6,4 +6,4 @@ use Rattle.grid.proofs.RowScroll.{blank_to}
 use Rattle.grid.proofs.row.blank_rows.Given as goal
 
 abbrev pub invariant-loop-r : goal.invariant-loop-r
-invariant-loop-r l = (l.r ≤ l.n) × Becomes l.initial.rec l.rec (blank_to l.initial.rec (blank_row l.w l.attr) l.r)
+invariant-loop-r l = (l.r ≤ l.n) × Becomes l.initial.rec l.rec (blank_to l.initial.rec (blank_row l.blank.width l.blank.attr) l.r)

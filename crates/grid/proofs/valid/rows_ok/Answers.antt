@@ -1,16 +1,14 @@
 -- `grid::valid::rows_ok` meets its contract.
-use Rattle.std.proofs.Common.{rules}
-use Rattle.grid.proofs.ValidLaws.{row_found, rows_start, rows_turn, rows_end}
+use Rattle.std.proofs.Common.{rules, refl, ◌∙◌}
+use Rattle.std.proofs.lemmas.Iterator.{YieldsList-from_range}
+use Rattle.std.proofs.lemmas.Iterator.Search.{all_from_yields_List}
+use Rattle.grid.specs.Screen.{valid_row}
+use Rattle.grid.specs.Record.{row_of}
+use Rattle.grid.proofs.ValidLaws.{rows_tested}
 use Rattle.grid.proofs.valid.rows_ok.Goals as goal
 
-pub loop-r-init : goal.loop-r-init
-loop-r-init g c = search (rules, rows_start)
-
-pub returns-then-not-row_ok : goal.returns-then-not-row_ok
-returns-then-not-row_ok g c = search (rules, row_found)
-
-pub loop-r-preserved : goal.loop-r-preserved
-loop-r-preserved g c = search (rules, rows_turn)
-
 pub returns : goal.returns
-returns g c = search (rules, rows_end)
+returns g c =
+    all_from_yields_List (λ r. valid_row g.row.W (row_of c.args.rec.now r)) _ _ _ c.all.ensures.ran (YieldsList-from_range 0 25 25 refl refl)
+    (λ x b q k. search rules)
+    ∙ rows_tested _ _

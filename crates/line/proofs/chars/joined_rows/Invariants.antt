@@ -9,4 +9,4 @@ use Rattle.line.proofs.chars.joined_rows.Given as goal
 
 abbrev pub invariant-loop-r : goal.invariant-loop-r
 invariant-loop-r l = (length l.bytes ≡ MAX-LOGICAL)
-    × (l.bytes ≡ write (replicate MAX-LOGICAL 32) 0 (line_from l.rec l.span.start l.w (min l.len ((l.r - l.span.start) * l.w))))
+    × (l.bytes ≡ write (replicate MAX-LOGICAL 32) 0 (line_from l.s l.span.start (min l.len ((l.r - l.span.start) * l.w))))

@@ -1,10 +1,10 @@
 -- `line::splice::splice_logical` meets its contract.
 use Rattle.std.proofs.Common.{rules}
-use Rattle.line.proofs.SpliceLaws.{splice_laid, spliced_done}
+use Rattle.line.proofs.SpliceLaws.{line_laid, text_spliced}
 use Rattle.line.proofs.splice.splice_logical.Goals as goal
 
 pub head_in-requires : goal.head_in-requires
-head_in-requires c = (search rules, search (rules, splice_laid), search rules)
+head_in-requires c = (search (rules, line_laid), search rules)
 
 pub returns : goal.returns
-returns c = search (rules, spliced_done)
+returns c = search (rules, text_spliced)
