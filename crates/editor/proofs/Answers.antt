@@ -9,21 +9,22 @@ use lib.ListN.{length, take, length-append, length-take}
 use lib.Dec.{leb}
 use borrow.Author.Tests.{ltb-true, leb-true}
 use Rattle.grid.specs.Layout.{CHARS, ATTRS}
-use Rattle.grid.specs.Screen.{Row, Screen, no_row, row_at, editable, is_empty, trim_by}
+use Rattle.grid.specs.Screen.{Row, Screen, editable, is_empty, trim_by}
 use Rattle.values.specs.Attr.{byte_of}
 use Rattle.octets.specs.Test.{every, is_byte}
-use Rattle.grid.specs.Record.{row_of, rows_of, screen_of}
+use Rattle.grid.specs.Record.{screen_of}
 use Rattle.grid.specs.Facts.{ScreenFacts, Valid}
 use Rattle.octets.proofs.Bools.{and_left, and_right, cases}
 use Rattle.octets.proofs.NumberLaws.{is_byte_lt}
 use Rattle.grid.proofs.Keep.{row_at_facts}
-use Rattle.grid.proofs.RowLaws.{get_d_rows, char_read, attr_read}
+use Rattle.grid.proofs.RowLaws.{char_read, attr_read}
 use Rattle.grid.proofs.Trim.{trim_le}
 use Rattle.line.proofs.KeptLine.{line_fits}
 use Rattle.editor.specs.Text.{is_white, row_texts, join_lines, snapshot}
 use Rattle.editor.specs.Outcome.{Query, inside, value, TextCall, room, text_of}
 use Rattle.editor.specs.Outcome.Query.{AskWidth, AskCursor, AskAttr, AskEditableRows, AskCell, AskContinues}
 use Rattle.editor.specs.Outcome.TextCall.{LogicalText, Snapshot}
+use Rattle.editor.proofs.PrintLaws.{row_is}
 
 -- ---- texts
 
@@ -76,8 +77,7 @@ module _ (l : List ℕ) (v : Valid l) (bytes : every is_byte l ≡ true) where
   value_fits (AskCell r c) i =
       let row = leb-true r 24 (and_left (leb r 24) _ i) in
       let col = ltb-true c (screen_of l).head.width (and_right (leb r 24) _ i) in
-      let here : row_at (rows_of l) r ≡ row_of l r = unfold row_at in get_d_rows l r no_row (omega arith) in
       let ch = is_byte_lt l (CHARS + 80 * r + c) bytes (omega (arith, v)) in
       let at = is_byte_lt l (ATTRS + 80 * r + c) bytes (omega (arith, v)) in
-      rw here (omega (arith, char_read l r c (omega (arith, v)), attr_read l r c (omega (arith, v))))
+      rw (row_is l r (omega arith)) (omega (arith, char_read l r c (omega (arith, v)), attr_read l r c (omega (arith, v))))
   value_fits (AskContinues r) i = let row = leb-true r 24 i in omega (arith, row_at_facts r (omega arith) v.screen.rows)

@@ -11,7 +11,8 @@ use lib.Seq.{take-length}
 use borrow.Author.Tests.{not-true}
 use Rattle.octets.specs.Answer.{is_refusal}
 use Rattle.octets.specs.Refusals.{all_pass}
-use Rattle.octets.proofs.Bools.{and_left, and_right, and_both, and_false, left_false, and_cases}
+use Rattle.std.proofs.lemmas.Bool.{and_cases}
+use Rattle.octets.proofs.Bools.{and_left, and_right, and_both, and_false, left_false}
 use Rattle.octets.proofs.Found.{is_accepted}
 use Rattle.grid.specs.Screen.{Screen, State}
 use Rattle.grid.specs.Record.{screen_of, read_state, state_bytes}

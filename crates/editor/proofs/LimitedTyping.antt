@@ -12,7 +12,8 @@ use borrow.Author.Tests.{ltb-true, ltb-false, leb-true, leb-false, eqb-true, lt-
 use Rattle.octets.specs.Answer.{is_refusal}
 use Rattle.octets.specs.Refusals.{all_pass}
 use Rattle.octets.specs.Test.{every, is_byte}
-use Rattle.octets.proofs.Bools.{and_left, cases, pick}
+use Rattle.std.proofs.lemmas.Bool.{cond-true as pick}
+use Rattle.octets.proofs.Bools.{and_left, cases}
 use Rattle.octets.proofs.Found.{is_accepted}
 use Rattle.grid.specs.Screen.{Screen, with_rows, with_bit, move_to, printable}
 use Rattle.grid.specs.Conditions.{ValidRecord}

@@ -1,5 +1,5 @@
 -- What the proofs of `print`'s functions cite: for each way out of the code, that it leaves what the rule says.
--- In them the screen is the head that goes from hand to hand over the rows of the record l.
+-- In them the screen is the head of the pen that goes from hand to hand, over the rows of the record l.
 -- Assumes nothing.
 use Prim.Native.Nat.{ℕ, ◌+◌, ◌-◌, ◌≤◌, ◌<◌}
 use mathlib.Core.Path.{◌≡◌, refl, sym, ap, ap₂, ◌∙◌, subst}
@@ -16,24 +16,21 @@ use lib.Seq.{length-take-le}
 use borrow.Author.Tests.{not-true, not-false, ltb-true, lt-ltb, le-ltb, eq-eqb, ne_eqb}
 use Rattle.std.specs.Prelude.{if◌then◌else◌}
 use Rattle.grid.specs.Layout.{SIZE, FLAGS}
-use Rattle.grid.specs.Screen.{Screen, with_cursor, with_rows, move_to, no_row, row_at, flag_row, set_flag, put_cell, scrolled, blank_row, editable, printable, is_empty, trim}
+use Rattle.grid.specs.Screen.{Row, Screen, with_cursor, with_rows, move_to, no_row, row_at, flag_row, set_flag, put_cell, scrolled, blank_row, editable, printable, is_empty, trim}
 use Rattle.values.specs.Cursor.{at}
-use Rattle.grid.specs.Record.{row_of, rows_of, head_of, screen_of, Becomes, Leaves}
-use Rattle.grid.specs.Facts.{HeadFacts, ScreenFacts}
-use Rattle.values.specs.declared.cursor.Cursor.{Cursor}
+use Rattle.grid.specs.Record.{row_of, rows_of, screen_with, Becomes}
 use Rattle.grid.specs.declared.head.Head.{Head}
-use Rattle.octets.proofs.Bools.{pick, skip, and_left, and_right}
+use Rattle.std.proofs.lemmas.Bool.{cond-true as pick, cond-false as skip}
+use Rattle.octets.proofs.Bools.{and_left, and_right}
 use Rattle.grid.proofs.RowLaws.{get_d_rows, and_then}
 use Rattle.line.specs.Line.{flagged, row_text}
 use Rattle.editor.specs.Print.{Advanced, still, scroll, next_row, row_is_blank, newline, write_cell, put_char, print_byte, print, wrapped}
+use Rattle.editor.specs.declared.pen.Pen.{Pen}
 use Rattle.editor.specs.declared.print.Went.{Went}
 use Rattle.editor.specs.declared.print.Effect.{Effect}
 use Rattle.editor.specs.declared.print.Effect.TheVariants.{Newline, Char, Nothing}
 use Rattle.editor.specs.Given.{Advances, Effects, effected}
-use Rattle.editor.specs.Lines.{break_line}
-use Rattle.editor.specs.Call.{PrintBytes, BreakLine, rule, apply, last_cr}
-use Rattle.line.proofs.Kept.{valid_kept}
-use Rattle.editor.proofs.KeptPrint.{print_byte_kept, printed}
+use Rattle.editor.specs.Call.{last_cr}
 use Rattle.editor.proofs.PrintParts.{after, follows, byte_only, print_next, print_more, last_next}
 use Rattle.editor.proofs.Taken.{bytes_most}
 
@@ -46,9 +43,9 @@ module _ {l m : List ℕ} {w : Went} (b : Bool) (x y : Advanced) where
   pub goes_else : b ≡ false → Advances y l m w → Advances (if b then x else y) l m w
   goes_else e p = rw (skip b x y e) p
 
-pub goes_still : (l : List ℕ) (h : Head) (w : Went) → length l ≡ SIZE → w ≡ record { head = h; scrolls = 0 }
-    → Advances (still (record { head = h; rows = rows_of l })) l l w
-goes_still l h w len here = rw here (record { becomes = record { size = len; front = refl; rows = refl }; head = refl; scrolls = refl })
+pub goes_still : (l : List ℕ) (pen : Pen) (w : Went) → length l ≡ SIZE → w ≡ record { pen = pen; scrolls = 0 }
+    → Advances (still (screen_with pen.head l)) l l w
+goes_still l pen w len here = rw here (record { becomes = record { size = len; front = refl; rows = refl }; head = refl; scrolls = refl })
 
 pub row_is : (l : List ℕ) (r : ℕ) → r < 25 → row_at (rows_of l) r ≡ row_of l r
 unfolding row_at
@@ -63,104 +60,115 @@ no_text (c ∷ cs) n e = ne_eqb n 0 (λ q. absurd (omega arith))
 
 -- ---- next_row: e is what editable_rows has answered
 
-module _ (l : List ℕ) (h g : Head) (c : Cursor) (e : ℕ) (is : e ≡ editable h.keys) (goes : g ≡ with_cursor h c) where
-  pub next_below : (w : Went) → length l ≡ SIZE → h.cursor.row + 1 < e → c ≡ at (h.cursor.row + 1) 0 → w ≡ record { head = g; scrolls = 0 }
-      → Advances (next_row (record { head = h; rows = rows_of l })) l l w
+module _ (l : List ℕ) (h : Head) (g : Pen) (e : ℕ) (is : e ≡ editable h.keys) where
+  pub next_below : (w : Went) → length l ≡ SIZE → h.cursor.row + 1 < e → g.head ≡ with_cursor h (at (h.cursor.row + 1) 0)
+      → w ≡ record { pen = g; scrolls = 0 } → Advances (next_row (screen_with h l)) l l w
   unfolding next_row move_to
-  next_below w len lt to here =
+  next_below w len lt goes here =
       rw here
       (goes_then _ _ _ (lt-ltb (h.cursor.row + 1) (editable h.keys) (omega arith))
-      (record { becomes = record { size = len; front = refl; rows = refl }; head = goes ∙ ap (with_cursor h) to; scrolls = refl }))
+      (record { becomes = record { size = len; front = refl; rows = refl }; head = goes; scrolls = refl }))
 
-  pub next_last : (m : List ℕ) → e ≤ h.cursor.row + 1 → c ≡ at h.cursor.row 0 → Becomes l m (scrolled (rows_of l) e (blank_row h.width h.attr))
-      → Advances (next_row (record { head = h; rows = rows_of l })) l m (record { head = g; scrolls = 1 })
+  pub next_last : (m : List ℕ) → e ≤ h.cursor.row + 1 → g.head ≡ with_cursor h (at h.cursor.row 0)
+      → Becomes l m (scrolled (rows_of l) e (blank_row h.width h.attr)) → Advances (next_row (screen_with h l)) l m (record { pen = g; scrolls = 1 })
   unfolding next_row move_to scroll with_rows
-  next_last m le to p =
-      goes_else _ _ _ (le-ltb (h.cursor.row + 1) (editable h.keys) (omega arith))
-      (record { becomes = rw is at p; head = goes ∙ ap (with_cursor h) to; scrolls = refl })
+  next_last m le goes p =
+      goes_else _ _ _ (le-ltb (h.cursor.row + 1) (editable h.keys) (omega arith)) (record { becomes = rw is at p; head = goes; scrolls = refl })
 
 -- ---- wrapped: f is the flag of the row above
 
 abbrev pub wraps : List ℕ → Head → Bool
-wraps l h = wrapped (record { head = h; rows = rows_of l })
+wraps l h = wrapped (screen_with h l)
 
-module _ (l : List ℕ) (h : Head) (v : Bool) (no : v ≡ false) where
-  pub wraps_col : h.cursor.col ≢ 0 → v ≡ wraps l h
-  unfolding wrapped
-  wraps_col ne = rw (ne_eqb h.cursor.col 0 ne) no
+module _ (l : List ℕ) (pen : Pen) (v : Bool) where
+  abbrev r : ℕ
+  r = pen.head.cursor.row
 
-  pub wraps_row : ltb 0 h.cursor.row ≡ false → v ≡ wraps l h
-  unfolding wrapped
-  wraps_row e = simp (e, Bool.and-false) no
+  module _ (no : v ≡ false) where
+    pub wraps_col : pen.head.cursor.col ≢ 0 → v ≡ wraps l pen.head
+    unfolding wrapped
+    wraps_col ne = rw (ne_eqb pen.head.cursor.col 0 ne) no
 
-  pub wraps_flag : (f : ℕ) → HeadFacts h → f ≡ (row_of l (h.cursor.row - 1)).flag → eqb f 1 ≡ false → v ≡ wraps l h
-  unfolding wrapped flagged
-  wraps_flag f facts is ne =
-      let above = row_is l (h.cursor.row - 1) (omega arith) in
-      simp (above, ← is, ne, Bool.and-false) no
+    pub wraps_row : ltb 0 r ≡ false → v ≡ wraps l pen.head
+    unfolding wrapped
+    wraps_row e = simp (e, Bool.and-false) no
 
-pub wraps_blank : (l : List ℕ) (h : Head) (f : ℕ) (t : Bool) → HeadFacts h → h.cursor.col ≡ 0 → 0 < h.cursor.row
-    → f ≡ (row_of l (h.cursor.row - 1)).flag → eqb f 1 ≡ true → t ≡ is_empty (trim (take h.width (row_of l h.cursor.row).chars)) → t ≡ wraps l h
-unfolding wrapped flagged row_is_blank row_text
-wraps_blank l h f t facts col row is on e =
-    let above = row_is l (h.cursor.row - 1) (omega arith) in
-    let here = row_is l h.cursor.row (omega arith) in
-    rw (eq-eqb h.cursor.col 0 col, lt-ltb 0 h.cursor.row row, above, ← is, on, here) e
+  module _ (f : ℕ) (above : Row) (up : above ≡ row_of l (r - 1)) (is : f ≡ above.flag) where
+    flag : f ≡ (row_at (rows_of l) (r - 1)).flag
+    flag = is ∙ ap (λ (x : Row). x.flag) (up ∙ sym (row_is l (r - 1) (omega arith)))
+
+    pub wraps_flag : eqb f 1 ≡ false → v ≡ false → v ≡ wraps l pen.head
+    unfolding wrapped flagged
+    wraps_flag ne none = simp (← flag, ne, Bool.and-false) none
+
+    pub wraps_blank : (here : Row) → pen.head.cursor.col ≡ 0 → 0 < r → eqb f 1 ≡ true → here ≡ row_of l r → v ≡ is_empty (trim (take pen.head.width here.chars))
+        → v ≡ wraps l pen.head
+    unfolding wrapped flagged row_is_blank row_text
+    wraps_blank here col row on cursor e =
+        let same : here ≡ row_at (rows_of l) r = cursor ∙ sym (row_is l r (omega arith)) in
+        rw (eq-eqb pen.head.cursor.col 0 col, lt-ltb 0 r row, ← flag, on, ← same) e
 
 -- ---- newline: t is what wrapped has answered
 
-module _ (l m : List ℕ) (h : Head) (t : Bool) (is : t ≡ wraps l h) where
+module _ (l m : List ℕ) (pen : Pen) (t : Bool) (is : t ≡ wraps l pen.head) where
+  abbrev h : Head
+  h = pen.head
+
   pub row_above : not t ≡ false → 0 < h.cursor.row
   unfolding wrapped
   row_above n =
       let both = sym is ∙ not-false t n in
       ltb-true 0 h.cursor.row (and_left _ _ (and_right (eqb h.cursor.col 0) _ both))
 
-  pub newline_next : (w : Went) → not t ≡ true → Advances (next_row (record { head = h; rows = rows_of l })) l m w
-      → Advances (newline (record { head = h; rows = rows_of l })) l m w
+  pub newline_next : (w : Went) → not t ≡ true → Advances (next_row (screen_with h l)) l m w
+      → Advances (newline (screen_with h l)) l m w
   unfolding newline
   newline_next w n p = goes_else _ _ _ (sym is ∙ not-true t n) p
 
-  pub newline_back : (w : Went) → HeadFacts h → not t ≡ false → Becomes l m (set (rows_of l) (h.cursor.row - 1) (flag_row 0 (row_of l (h.cursor.row - 1))))
-      → w ≡ record { head = h; scrolls = 0 } → Advances (newline (record { head = h; rows = rows_of l })) l m w
+  pub newline_back : (w : Went) → not t ≡ false → Becomes l m (set (rows_of l) (h.cursor.row - 1) (flag_row 0 (row_of l (h.cursor.row - 1))))
+      → w ≡ record { pen = pen; scrolls = 0 } → Advances (newline (screen_with h l)) l m w
   unfolding newline with_rows set_flag
-  newline_back w facts n p here =
+  newline_back w n p here =
       let above = row_is l (h.cursor.row - 1) (omega arith) in
       rw here (goes_then _ _ _ (sym is ∙ not-false t n) (record { becomes = rw above p; head = refl; scrolls = refl }))
 
 -- ---- wrap: m has the flag, and n is what next_row has left
 
-pub wrap_end : (l m n : List ℕ) (h : Head) (w : Went) → HeadFacts h → Becomes l m (set (rows_of l) h.cursor.row (flag_row 1 (row_of l h.cursor.row)))
-    → Advances (next_row (record { head = h; rows = rows_of m })) m n w → Advances (next_row (record { head = h; rows = set_flag (rows_of l) h.cursor.row 1 })) l n w
+pub wrap_end : (l m n : List ℕ) (pen : Pen) (w : Went) → let h = pen.head in
+    Becomes l m (set (rows_of l) h.cursor.row (flag_row 1 (row_of l h.cursor.row)))
+    → Advances (next_row (screen_with h m)) m n w → Advances (next_row (record { head = h; rows = set_flag (rows_of l) h.cursor.row 1 })) l n w
 unfolding set_flag
-wrap_end l m n h w facts flag p =
-    let here = row_is l h.cursor.row (omega arith) in
+wrap_end l m n pen w flag p =
+    let here = row_is l pen.head.cursor.row (omega arith) in
     rw (here, ← flag.rows) (record { becomes = and_then flag p.becomes refl; head = p.head; scrolls = p.scrolls })
 
 -- ---- put_print_char: m has the character
 
-module _ (l m : List ℕ) (h : Head) (ch : ℕ) (facts : HeadFacts h)
-    (put : Becomes l m (set (rows_of l) h.cursor.row (put_cell h.cursor.col ch h.attr (row_of l h.cursor.row)))) where
-  written : write_cell (record { head = h; rows = rows_of l }) ch ≡ record { head = h; rows = rows_of m }
+module _ (l m : List ℕ) (pen : Pen) (ch : ℕ)
+    (put : let h = pen.head in Becomes l m (set (rows_of l) h.cursor.row (put_cell h.cursor.col ch h.attr (row_of l h.cursor.row)))) where
+  abbrev was : Head
+  was = pen.head
+
+  written : write_cell (screen_with was l) ch ≡ screen_with was m
   unfolding write_cell with_rows
   written =
-      let here = row_is l h.cursor.row (omega arith) in
+      let here = row_is l was.cursor.row (omega arith) in
       rw (here, put.rows)
 
-  pub put_inside : (g : Head) (c : Cursor) (w : Went) → h.cursor.col + 1 < h.width → c ≡ at h.cursor.row (h.cursor.col + 1) → g ≡ with_cursor h c
-      → w ≡ record { head = g; scrolls = 0 } → Advances (put_char (record { head = h; rows = rows_of l }) ch) l m w
+  pub put_inside : (g : Pen) (w : Went) → was.cursor.col + 1 < was.width → g.head ≡ with_cursor was (at was.cursor.row (was.cursor.col + 1))
+      → w ≡ record { pen = g; scrolls = 0 } → Advances (put_char (screen_with was l) ch) l m w
   unfolding put_char move_to
-  put_inside g c w lt to goes here =
+  put_inside g w lt goes here =
       rw here
-      (goes_then _ _ _ (lt-ltb (h.cursor.col + 1) h.width lt)
-      (rw written (record { becomes = record { size = put.size; front = put.front; rows = refl }; head = goes ∙ ap (with_cursor h) to; scrolls = refl })))
+      (goes_then _ _ _ (lt-ltb (was.cursor.col + 1) was.width lt)
+      (rw written (record { becomes = record { size = put.size; front = put.front; rows = refl }; head = goes; scrolls = refl })))
 
   -- n is what wrap has left
-  pub put_last : (n : List ℕ) (w : Went) → h.width ≤ h.cursor.col + 1
-      → Advances (next_row (record { head = h; rows = set_flag (rows_of m) h.cursor.row 1 })) m n w → Advances (put_char (record { head = h; rows = rows_of l }) ch) l n w
+  pub put_last : (n : List ℕ) (w : Went) → was.width ≤ was.cursor.col + 1
+      → Advances (next_row (record { head = was; rows = set_flag (rows_of m) was.cursor.row 1 })) m n w → Advances (put_char (screen_with was l) ch) l n w
   unfolding put_char with_rows
   put_last n w le p =
-      goes_else _ _ _ (le-ltb (h.cursor.col + 1) h.width le)
+      goes_else _ _ _ (le-ltb (was.cursor.col + 1) was.width le)
       (rw written (record { becomes = and_then put p.becomes refl; head = p.head; scrolls = p.scrolls }))
 
 -- ---- effect_of: t is what is_printable has answered
@@ -191,7 +199,7 @@ module _ (cr : Bool) (b : ℕ) where
 
 module _ (l m : List ℕ) (h : Head) (cr : Bool) (b : ℕ) (e : Effect) (w : Went) (effect : Effects cr b e) where
   abbrev before : Screen
-  before = record { head = h; rows = rows_of l }
+  before = screen_with h l
 
   pub line_ended : e ≡ Newline → Advances (newline before) l m w → Advances (print_byte cr before b) l m w
   unfolding effected
@@ -201,10 +209,19 @@ module _ (l m : List ℕ) (h : Head) (cr : Bool) (b : ℕ) (e : Effect) (w : Wen
   unfolding effected
   char_put is p = rw (effect.does before, is) p
 
-pub byte_ignored : (l : List ℕ) (h : Head) (cr : Bool) (b : ℕ) (e : Effect) (w : Went) → Effects cr b e → e ≡ Nothing → length l ≡ SIZE
-    → w ≡ record { head = h; scrolls = 0 } → Advances (print_byte cr (record { head = h; rows = rows_of l }) b) l l w
+pub byte_ignored : (l : List ℕ) (pen : Pen) (cr : Bool) (b : ℕ) (e : Effect) (w : Went) → Effects cr b e → e ≡ Nothing → length l ≡ SIZE
+    → w ≡ record { pen = pen; scrolls = 0 } → Advances (print_byte cr (screen_with pen.head l) b) l l w
 unfolding effected
-byte_ignored l h cr b e w effect is len here = rw (effect.does (record { head = h; rows = rows_of l }), is) (goes_still l h w len here)
+byte_ignored l pen cr b e w effect is len here = rw (effect.does (screen_with pen.head l), is) (goes_still l pen w len here)
+
+-- ---- of the pen it moves the cursor alone
+
+module _ (l m : List ℕ) (h : Head) (cr : Bool) (b : ℕ) (w : Went) (q : Advances (print_byte cr (screen_with h l) b) l m w) where
+  pub moves_only : with_cursor h w.pen.head.cursor ≡ w.pen.head
+  moves_only = ap (λ (x : Head). with_cursor h x.cursor) q.head ∙ byte_only cr (screen_with h l) b ∙ sym q.head
+
+  pub moves_inside : (w.pen.head.cursor.row < editable h.keys) × (w.pen.head.cursor.col < h.width)
+  moves_inside = subst (λ (x : Head). (w.pen.head.cursor.row < editable x.keys) × (w.pen.head.cursor.col < x.width)) (sym moves_only) (w.pen.row, w.pen.col)
 
 -- ---- print_piece, and with it print_waiting: from the screen s, where start says that 13 stood before, the first i bytes are printed and have made n scrolls;
 -- cr says that the last of them was 13
@@ -213,41 +230,37 @@ pub record Printing (start : Bool) (s : Screen) (bs l m : List ℕ) (i : ℕ) (c
   pub to : i ≤ length bs
   pub size : length m ≡ SIZE
   pub front : take FLAGS m ≡ take FLAGS l
-  pub screen : ScreenFacts (record { head = h; rows = rows_of m })
-  pub done : record { head = h; rows = rows_of m } ≡ (print start s (take i bs)).screen
+  pub done : screen_with h m ≡ (print start s (take i bs)).screen
   pub count : n ≡ (print start s (take i bs)).scrolls
   pub last : cr ≡ follows start (take i bs)
 
-module _ (start : Bool) (bs l : List ℕ) (h₀ : Head) where
-  abbrev first : Screen
-  first = record { head = h₀; rows = rows_of l }
-
-  pub piece_start : length l ≡ SIZE → ScreenFacts first → Printing start first bs l l 0 start h₀ 0
+module _ (start : Bool) (s : Screen) (bs l : List ℕ) where
+  pub piece_start : (h : Head) → length l ≡ SIZE → h ≡ s.head → rows_of l ≡ s.rows → Printing start s bs l l 0 start h 0
   unfolding print last_cr
-  piece_start size facts = record { to = omega arith; size = size; front = refl; screen = facts; done = refl; count = refl; last = bit start }
+  piece_start h size head rows =
+      record { to = omega arith; size = size; front = refl; done = λ j. record { head = head j; rows = rows j }; count = refl; last = bit start }
     where
       bit : (t : Bool) → t ≡ eqb (if t then 1 else 0) 1
       bit true = refl
       bit false = refl
 
-  module _ (m : List ℕ) (i n : ℕ) (cr : Bool) (h : Head) (p : Printing start first bs l m i cr h n) where
+  module _ (m : List ℕ) (i n : ℕ) (cr : Bool) (h : Head) (p : Printing start s bs l m i cr h n) where
     -- ---- one byte more
 
     abbrev here : Screen
-    here = record { head = h; rows = rows_of m }
+    here = screen_with h m
 
     pub run_turn : (m' : List ℕ) (w : Went) → i < length bs → Advances (print_byte cr here (get_or bs i 0)) m m' w
-        → Printing start first bs l m' (i + 1) (eqb (get_or bs i 0) 13) w.head (n + w.scrolls)
+        → Printing start s bs l m' (i + 1) (eqb (get_or bs i 0) 13) w.pen.head (n + w.scrolls)
     run_turn m' w lt q =
         let b : ℕ = get_or bs i 0 in
-        let is : record { head = w.head; rows = rows_of m' } ≡ (print_byte cr here b).screen = λ j. record { head = q.head j; rows = q.becomes.rows j } in
-        let one : after (print start first (take i bs)) (print_byte cr here b) ≡ print start first (take (i + 1) bs) =
-        (λ j. after (print start first (take i bs)) (print_byte (p.last j) (p.done j) b)) ∙ sym (print_next bs i lt start first) in
+        let is : screen_with w.pen.head m' ≡ (print_byte cr here b).screen = λ j. record { head = q.head j; rows = q.becomes.rows j } in
+        let one : after (print start s (take i bs)) (print_byte cr here b) ≡ print start s (take (i + 1) bs) =
+        (λ j. after (print start s (take i bs)) (print_byte (p.last j) (p.done j) b)) ∙ sym (print_next bs i lt start s) in
         record {
           to = omega arith;
           size = q.becomes.size;
           front = q.becomes.front ∙ p.front;
-          screen = rw is (print_byte_kept valid_kept cr here b p.screen);
           done = is ∙ ap (λ (a : Advanced). a.screen) one;
           count = ap₂ (λ (x y : ℕ). x + y) p.count q.scrolls ∙ ap (λ (a : Advanced). a.scrolls) one;
           last = sym (last_next bs i lt start);
@@ -256,50 +269,29 @@ module _ (start : Bool) (bs l : List ℕ) (h₀ : Head) where
     -- ---- more bytes, up to j: what w hands on
 
     module _ (j : ℕ) (m' : List ℕ) (w : Went) (further : i < j) (within : j ≤ length bs) (went : Advances (print cr here (take (j - i) (drop i bs))) m m' w) where
-      pub piece_on : Printing start first bs l m' j (eqb (get_or bs (j - 1) 0) 13) w.head (n + w.scrolls)
+      pub piece_on : Printing start s bs l m' j (eqb (get_or bs (j - 1) 0) 13) w.pen.head (n + w.scrolls)
       piece_on =
           let piece : List ℕ = take (j - i) (drop i bs) in
-          let is : record { head = w.head; rows = rows_of m' } ≡ (print cr here piece).screen = λ k. record { head = went.head k; rows = went.becomes.rows k } in
-          let all : after (print start first (take i bs)) (print cr here piece) ≡ print start first (take j bs) =
-          (λ k. after (print start first (take i bs)) (print (p.last k) (p.done k) piece)) ∙ sym (print_more bs i j (omega arith) start first) in
+          let is : screen_with w.pen.head m' ≡ (print cr here piece).screen = λ k. record { head = went.head k; rows = went.becomes.rows k } in
+          let all : after (print start s (take i bs)) (print cr here piece) ≡ print start s (take j bs) =
+          (λ k. after (print start s (take i bs)) (print (p.last k) (p.done k) piece)) ∙ sym (print_more bs i j (omega arith) start s) in
           let before : j - 1 + 1 ≡ j = omega arith in
           record {
             to = within;
             size = went.becomes.size;
             front = went.becomes.front ∙ p.front;
-            screen = rw is (printed valid_kept piece cr here p.screen);
             done = is ∙ ap (λ (a : Advanced). a.screen) all;
             count = ap₂ (λ (x y : ℕ). x + y) p.count went.scrolls ∙ ap (λ (a : Advanced). a.scrolls) all;
             last = sym (ap (λ (k : ℕ). follows start (take k bs)) (sym before) ∙ last_next bs (j - 1) (omega arith) start);
           }
 
-    -- ---- print_piece: w is what print_byte has handed back, and g the head with its cursor
+    -- ---- print_piece: w is what print_byte has handed back, and g the pen with its cursor
 
     module _ (m' : List ℕ) (w : Went) (lt : i < length bs) (q : Advances (print_byte cr here (get_or bs i 0)) m m' w) where
       pub turn_fits : Fits w64 (length bs) → Fits w64 (n + w.scrolls)
       turn_fits f =
           let few : length (take (i + 1) bs) ≡ i + 1 = length-take-le (i + 1) bs (omega arith) in
-          record { fits = omega (arith, f.fits, few, (run_turn m' w lt q).count, bytes_most (take (i + 1) bs) start first) }
+          record { fits = omega (arith, f.fits, few, (run_turn m' w lt q).count, bytes_most (take (i + 1) bs) start s) }
 
-      pub piece_turn : (g : Head) → g ≡ with_cursor h w.head.cursor → Printing start first bs l m' (i + 1) (eqb (get_or bs i 0) 13) g (n + w.scrolls)
-      piece_turn g moved =
-          let same : w.head ≡ g = sym (moved ∙ ap (λ (x : Head). with_cursor h x.cursor) q.head ∙ byte_only cr here (get_or bs i 0) ∙ sym q.head) in
-          subst (λ (x : Head). Printing start first bs l m' (i + 1) (eqb (get_or bs i 0) 13) x (n + w.scrolls)) same (run_turn m' w lt q)
-
--- ---- print_bytes
-
-pub all_printed : (bs l m : List ℕ) (h : Head) (w : Went) → h ≡ head_of l → Advances (print false (record { head = h; rows = rows_of l }) bs) l m w
-    → Leaves (apply (PrintBytes bs) (screen_of l)) l m w.head
-unfolding apply rule
-all_printed bs l m h w is p =
-    let left : Leaves (print false (record { head = h; rows = rows_of l }) bs).screen l m w.head = record { becomes = p.becomes; head = p.head } in
-    rw is at left
-
--- ---- break_line
-
-pub line_broken : (l m : List ℕ) (h : Head) (w : Went) → h ≡ head_of l → Advances (next_row (record { head = h; rows = rows_of l })) l m w
-    → Leaves (apply BreakLine (screen_of l)) l m w.head
-unfolding apply rule break_line
-line_broken l m h w is p =
-    let left : Leaves (next_row (record { head = h; rows = rows_of l })).screen l m w.head = record { becomes = p.becomes; head = p.head } in
-    rw is at left
+      pub piece_turn : (g : Head) → g ≡ with_cursor h w.pen.head.cursor → Printing start s bs l m' (i + 1) (eqb (get_or bs i 0) 13) g (n + w.scrolls)
+      piece_turn g moved = subst (λ (x : Head). Printing start s bs l m' (i + 1) (eqb (get_or bs i 0) 13) x (n + w.scrolls)) (sym (moved ∙ moves_only m m' h cr (get_or bs i 0) w q)) (run_turn m' w lt q)

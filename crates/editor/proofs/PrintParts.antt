@@ -10,7 +10,8 @@ use lib.Seq.{take-suc, take-add}
 use native.Mathlib.Numerals.{add-one}
 use native.Mathlib.Omega.{arith}
 use Rattle.std.specs.Prelude.{if◌then◌else◌}
-use Rattle.octets.proofs.Bools.{skip, either}
+use Rattle.std.proofs.lemmas.Bool.{cond-false as skip}
+use Rattle.octets.proofs.Bools.{either}
 use Rattle.grid.specs.Screen.{Screen, with_cursor, with_rows, with_bit, move_to, set_flag, editable, printable}
 use Rattle.values.specs.Cursor.{at}
 use Rattle.grid.specs.declared.head.Head.{Head}

@@ -15,7 +15,8 @@ use Rattle.grid.specs.Screen.{Screen, new_state}
 use Rattle.octets.specs.Width.{widthb}
 use Rattle.octets.specs.Test.{every, is_byte}
 use Rattle.grid.specs.Record.{serial_of, screen_of, read_state, state_bytes}
-use Rattle.octets.proofs.Bools.{and_false, left_false, and_cases, and_right, and_left, and_both}
+use Rattle.std.proofs.lemmas.Bool.{and_cases}
+use Rattle.octets.proofs.Bools.{and_false, left_false, and_right, and_left, and_both}
 use Rattle.octets.proofs.WidthLaws.{width_cases, cases_width}
 use Rattle.line.specs.Line.{MAX-LOGICAL}
 use Rattle.line.proofs.KeptLine.{line_fits}

@@ -1,160 +1,103 @@
--- Tab: a space typed leaves a valid record, and so do several; and the moves where insert is off.
+-- Tab: spaces typed one after the other leave what the rule says; and the moves where insert is off.
 -- Assumes nothing.
 use Prim.Native.Nat.{ℕ, suc, ◌+◌, ◌-◌, ◌*◌, ◌/◌, ◌≤◌, ◌<◌}
-use mathlib.Core.Path.{◌≡◌, refl, sym, ap, ap₂, ◌∙◌, subst}
+use mathlib.Core.Path.{◌≡◌, refl, sym, ap, ◌∙◌, subst}
 use mathlib.Core.Bool.{Bool, true, false, ◌&&◌}
-use mathlib.Core.List.{List, ◌++◌}
+use mathlib.Core.List.{List}
 use native.Mathlib.Omega.{arith}
 use lib.Dec.{eqb}
-use lib.ListN.{length, drop, length-drop}
-use borrow.Author.Tests.{eq-eqb, ne_eqb, lt-ltb, le-ltb}
+use lib.ListN.{length, take}
+use borrow.Author.Tests.{eq-eqb, ne_eqb}
 use Rattle.std.specs.Prelude.{if◌then◌else◌}
-use Rattle.grid.specs.Layout.{SIZE, FLAGS, MASKS}
-use Rattle.grid.specs.Screen.{Row, Screen, with_cursor, move_to, editable}
+use Rattle.grid.specs.Layout.{SIZE, FLAGS}
+use Rattle.grid.specs.Screen.{Screen, with_cursor, move_to}
 use Rattle.values.specs.Cursor.{at}
-use Rattle.grid.specs.Record.{rows_of, head_of, screen_of, touched_of, front_bytes, rows_bytes, Leaves, stamp_of, head_at}
-use Rattle.grid.specs.Facts.{HeadFacts, HeadFits, RowsFacts, ScreenFacts, Valid}
+use Rattle.grid.specs.Record.{rows_of, screen_with, Leaves}
+use Rattle.grid.specs.Facts.{ScreenFacts, Known}
 use Rattle.values.specs.declared.cursor.Cursor.{Cursor}
 use Rattle.grid.specs.declared.head.Head.{Head}
-use Rattle.octets.proofs.Bools.{pick, skip, picked, skipped}
-use Rattle.grid.proofs.Validity.{head_fits}
-use Rattle.grid.proofs.HeadLaws.{head_whole}
-use Rattle.grid.proofs.Record.{rows_bytes_of}
-use Rattle.octets.proofs.NumberLaws.{whole4}
-use Rattle.grid.proofs.Bytes.{rows_back}
-use Rattle.line.specs.Given.{Known}
+use Rattle.std.proofs.lemmas.Bool.{cond-true as pick, cond-false as skip}
+use Rattle.octets.specs.Refusals.{all_pass}
+use Rattle.grid.proofs.ScreenLaws.{head_seen, rows_seen}
 use Rattle.editor.specs.Typing.{type_char}
 use Rattle.editor.specs.Tab.{same_cursor, type_spaces, next_stop, tab, tabbed}
 use Rattle.editor.specs.Call.{TypeChar, Tab, in_range, rule, apply, own}
-use Rattle.editor.specs.Given.{Ends, SpaceTyped}
 use Rattle.editor.proofs.KeptCall.{apply_facts}
-use Rattle.octets.specs.Refusals.{all_pass}
-use Rattle.grid.specs.declared.head.Stamp.{Stamp}
+use Rattle.editor.proofs.TypingLaws.{still}
 
--- ---- a front written over rows is read back
+-- ---- type_spaces: of n spaces on the screen s, i are typed, which have made the record l of l₀ and left the head h; what is left to type leads to the answer
 
-module _ (h : Head) (s : Stamp) (m n : List ℕ) (f : HeadFacts h) (rows : RowsFacts h.width 25 (rows_of m)) (len : length m ≡ SIZE)
-    (is : n ≡ front_bytes h s ++ drop FLAGS m) where
-  head_back : (rest : List ℕ) → head_of (front_bytes h s ++ rest) ≡ h
-  unfolding head_of head_at front_bytes
-  head_back rest = head_whole h f
+pub record Spaced (s : Screen) (l₀ : List ℕ) (n : ℕ) (l : List ℕ) (h : Head) (i : ℕ) : Type 0 where
+  pub known : Known l h
+  pub front : take FLAGS l ≡ take FLAGS l₀
+  pub rest : type_spaces (n - i) (screen_with h l) ≡ type_spaces n s
 
-  whole : n ≡ front_bytes h s ++ rows_bytes (rows_of m)
-  whole = is ∙ ap (λ (x : List ℕ). front_bytes h s ++ x) (sym (rows_bytes_of m len))
+-- m is the record after one more, g its head, and t says that the cursor has not moved
+module _ (s : Screen) (l₀ l m : List ℕ) (h g : Head) (n i : ℕ) (t : Bool) (more : i < n) (spaced : Spaced s l₀ n l h i)
+    (typed : Leaves (apply (TypeChar 32) (screen_with h l)) l m g) (is : t ≡ (eqb h.cursor.row g.cursor.row && eqb h.cursor.col g.cursor.col)) where
+  after : screen_with g m ≡ type_char (screen_with h l) 32
+  unfolding apply rule
+  after = λ j. record { head = typed.head j; rows = typed.becomes.rows j }
 
-  rows_are : rows_of n ≡ rows_of m
-  unfolding front_bytes
-  rows_are = ap rows_of whole ∙ rows_back (front_bytes h s) h.width (rows_of m) refl rows
+  facts : ScreenFacts (screen_with g m)
+  unfolding apply in_range own all_pass rule
+  facts = subst ScreenFacts (sym after) (apply_facts (TypeChar 32) (screen_with h l) refl (record { head = spaced.known.facts; rows = spaced.known.rows }))
 
-  pub screen_back : screen_of n ≡ record { head = h; rows = rows_of m }
-  screen_back =
-      let e : head_of n ≡ h = ap head_of is ∙ head_back (drop FLAGS m) in
-      λ i. record { head = e i; rows = rows_are i }
-
-  pub valid_back : s.touched < MASKS → Valid n
-  unfolding front_bytes touched_of
-  valid_back t =
-      let w = whole4 s.touched (omega arith) in
-      rw is
-      (record {
-        size = simp length-drop (omega arith);
-        length_high = refl;
-        length_low = refl;
-        version = refl;
-        touched = omega arith;
-        screen = subst ScreenFacts (sym (ap screen_of (sym is) ∙ screen_back)) (record { head = f; rows = rows });
-      })
-
--- ---- type_space: m is what the key has left of the record l, stamp the record's, n the record with its head
-
-module _ (l m : List ℕ) (g : Head) (v : Valid l) (left : Leaves (apply (TypeChar 32) (screen_of l)) l m g) where
-  typed : ScreenFacts (apply (TypeChar 32) (screen_of l))
-  unfolding in_range own all_pass rule
-  typed = apply_facts (TypeChar 32) (screen_of l) refl v.screen
-
-  facts : HeadFacts g
-  facts = subst HeadFacts (sym left.head) typed.head
-
-  pub space_fits : HeadFits g
-  space_fits = head_fits g facts
-
-  pub space_typed : (n : List ℕ) (stamp : Stamp) → stamp ≡ stamp_of l → n ≡ front_bytes g stamp ++ drop FLAGS m → SpaceTyped l n g
-  unfolding apply rule stamp_of
-  space_typed n stamp kept is =
-      let rows : RowsFacts g.width 25 (rows_of m) =
-      subst (λ (x : Head). RowsFacts x.width 25 (rows_of m)) (sym left.head) (subst (λ (x : List Row). RowsFacts (apply (TypeChar 32) (screen_of l)).head.width 25 x) (sym left.becomes.rows) typed.rows) in
-      let few : stamp.touched < MASKS = omega (arith, v.touched, ap (λ (x : Stamp). x.touched) kept) in
-      let back = screen_back g stamp m n facts rows left.becomes.size is in
-      record {
-        valid = valid_back g stamp m n facts rows left.becomes.size is few;
-        screen = back ∙ (λ i. record { head = left.head i; rows = left.becomes.rows i });
-        head = sym (ap (λ (x : Screen). x.head) back);
-      }
-
--- ---- type_spaces: from the record l₀, i of n spaces are typed, and what is left to type leads to the answer
-
-pub record Spaced (l₀ : List ℕ) (n : ℕ) (l : List ℕ) (i : ℕ) : Type 0 where
-  pub valid : Valid l
-  pub rest : type_spaces (n - i) (screen_of l) ≡ type_spaces n (screen_of l₀)
-
--- m is the record after one more, t says that the cursor has not moved
-module _ (l₀ l m : List ℕ) (h g : Head) (n i : ℕ) (t : Bool) (more : i < n) (spaced : Spaced l₀ n l i) (known : Known l h) (typed : SpaceTyped l m g)
-    (is : t ≡ (eqb h.cursor.row g.cursor.row && eqb h.cursor.col g.cursor.col)) where
-  same : same_cursor (head_of l).cursor (type_char (screen_of l) 32).head.cursor ≡ t
+  same : same_cursor h.cursor (type_char (screen_with h l) 32).head.cursor ≡ t
   unfolding same_cursor
-  same =
-      ap₂ (λ (x y : Head). same_cursor x.cursor y.cursor) (sym known.head) (sym (ap (λ (x : Screen). x.head) typed.screen) ∙ sym typed.head)
-      ∙ sym is
+  same = sym (ap (λ (x : Screen). same_cursor h.cursor x.head.cursor) after) ∙ sym is
 
   left : n - i ≡ suc (n - (i + 1))
   left = omega arith
 
   -- the next turn of the rule
-  turn : (if t then type_char (screen_of l) 32 else type_spaces (n - (i + 1)) (type_char (screen_of l) 32)) ≡ type_spaces n (screen_of l₀)
+  turn : (if t then type_char (screen_with h l) 32 else type_spaces (n - (i + 1)) (type_char (screen_with h l) 32)) ≡ type_spaces n s
   unfolding type_spaces
   turn =
-      sym (ap (λ (b : Bool). if b then type_char (screen_of l) 32 else type_spaces (n - (i + 1)) (type_char (screen_of l) 32)) same)
-      ∙ sym (ap (λ (x : ℕ). type_spaces x (screen_of l)) left) ∙ spaced.rest
+      sym (ap (λ (b : Bool). if b then type_char (screen_with h l) 32 else type_spaces (n - (i + 1)) (type_char (screen_with h l) 32)) same)
+      ∙ sym (ap (λ (x : ℕ). type_spaces x (screen_with h l)) left) ∙ spaced.rest
 
-  pub spaced_still : t ≡ true → Ends (type_spaces n (screen_of l₀)) m g
+  pub spaced_still : t ≡ true → Leaves (type_spaces n s) l₀ m g
   spaced_still e =
-      let s : type_char (screen_of l) 32 ≡ type_spaces n (screen_of l₀) = sym (pick t _ _ e) ∙ turn in
+      let q : screen_with g m ≡ type_spaces n s = after ∙ sym (pick t _ _ e) ∙ turn in
       record {
-        size = typed.valid.size;
-        rows = ap (λ (x : Screen). x.rows) (typed.screen ∙ s);
-        head = typed.head ∙ ap (λ (x : Screen). x.head) (typed.screen ∙ s);
+        becomes = record { size = typed.becomes.size; front = typed.becomes.front ∙ spaced.front; rows = rows_seen m g _ q };
+        head = head_seen m g _ q;
       }
 
-  pub spaced_turn : t ≡ false → Spaced l₀ n m (i + 1)
-  spaced_turn e = record { valid = typed.valid; rest = ap (type_spaces (n - (i + 1))) typed.screen ∙ sym (skip t _ _ e) ∙ turn }
+  pub spaced_turn : t ≡ false → Spaced s l₀ n m g (i + 1)
+  spaced_turn e =
+      record {
+        known = record { size = typed.becomes.size; facts = facts.head; rows = facts.rows };
+        front = typed.becomes.front ∙ spaced.front;
+        rest = ap (type_spaces (n - (i + 1))) after ∙ sym (skip t _ _ e) ∙ turn;
+      }
 
-pub spaced_end : (l₀ l : List ℕ) (h : Head) (n i : ℕ) → i ≤ n → n ≤ i → Spaced l₀ n l i → Known l h → Ends (type_spaces n (screen_of l₀)) l h
+pub spaced_end : (s : Screen) (l₀ l : List ℕ) (h : Head) (n i : ℕ) → i ≤ n → n ≤ i → Spaced s l₀ n l h i → Leaves (type_spaces n s) l₀ l h
 unfolding type_spaces
-spaced_end l₀ l h n i lo hi spaced known =
+spaced_end s l₀ l h n i lo hi spaced =
     let k : 0 ≡ n - i = omega arith in
-    let s : screen_of l ≡ type_spaces n (screen_of l₀) = ap (λ (x : ℕ). type_spaces x (screen_of l)) k ∙ spaced.rest in
-    record { size = spaced.valid.size; rows = ap (λ (x : Screen). x.rows) s; head = known.head ∙ ap (λ (x : Screen). x.head) s }
+    let q : screen_with h l ≡ type_spaces n s = ap (λ (x : ℕ). type_spaces x (screen_with h l)) k ∙ spaced.rest in
+    record { becomes = record { size = spaced.known.size; front = spaced.front; rows = rows_seen l h _ q }; head = head_seen l h _ q }
 
--- ---- tab
+-- ---- tab: the screen has the head h and the rows of the record r
 
-module _ (l : List ℕ) (h : Head) (known : Known l h) where
-  ih : h ≡ head_of l
-  ih = known.head
-
-  pub tab_typed : (m : List ℕ) (g : Head) (t : ℕ) → h.insert ≡ 1 → t ≡ next_stop h.cursor.col
-      → Ends (type_spaces (t - h.cursor.col) (screen_of l)) m g → Ends (apply Tab (screen_of l)) m g
+module _ (r : List ℕ) (h : Head) (s : Screen) (is : screen_with h r ≡ s) where
+  pub tab_typed : (l m : List ℕ) (g : Head) (t : ℕ) → h.insert ≡ 1 → t ≡ next_stop h.cursor.col → Leaves (type_spaces (t - h.cursor.col) s) l m g
+      → Leaves (apply Tab s) l m g
   unfolding apply rule tab
-  tab_typed m g t i et ends =
-      let s : screen_of l ≡ record { head = h; rows = rows_of l } = λ j. record { head = sym ih j; rows = rows_of l } in
-      let stop = subst (λ (x : ℕ). Ends (type_spaces (x - h.cursor.col) (screen_of l)) m g) et ends in
-      let k : ℕ = next_stop h.cursor.col - h.cursor.col in
-      rw (← ih, eq-eqb h.insert 1 i) (subst (λ (x : Screen). Ends (type_spaces k x) m g) s stop)
+  tab_typed l m g t i et typed =
+      let q : h ≡ s.head = head_seen r h s is in
+      rw (eq-eqb s.head.insert 1 (ap (λ (x : Head). x.insert) (sym q) ∙ i))
+      (subst (λ (x : Head). Leaves (type_spaces (next_stop x.cursor.col - x.cursor.col) s) l m g) q (rw et at typed))
 
-  pub tab_done : (g : Head) (c : Cursor) → (h.insert ≡ 1 → ⊥) → c ≡ tabbed h → g ≡ with_cursor h c → Ends (apply Tab (screen_of l)) l g
+  pub tab_done : (l : List ℕ) (g : Head) (c : Cursor) → (h.insert ≡ 1 → ⊥) → length l ≡ SIZE → rows_of l ≡ s.rows → c ≡ tabbed s.head → g ≡ with_cursor h c
+      → Leaves (apply Tab s) l l g
   unfolding apply rule tab move_to
-  tab_done g c i ec eg =
-      let e : g ≡ with_cursor h (tabbed h) = eg ∙ ap (with_cursor h) ec in
-      rw (← ih, ne_eqb h.insert 1 i) (record { size = known.size; rows = refl; head = e })
+  tab_done l g c i size rows ec eg =
+      let q : h ≡ s.head = head_seen r h s is in
+      rw (ne_eqb s.head.insert 1 (λ e. i (ap (λ (x : Head). x.insert) q ∙ e)))
+      (still (move_to s (tabbed s.head)) size rows (eg ∙ ap (with_cursor h) ec ∙ ap (λ (x : Head). with_cursor x (tabbed s.head)) q))
 
 -- ---- next_stop
 
@@ -164,22 +107,3 @@ next_stop_is c t e = e
 
 pub after_stop : (c t : ℕ) → t ≡ (c / 8 + 1) * 8 → c < t
 after_stop c t e = omega arith
-
--- ---- tab_cursor
-
-module _ (h : Head) (t : ℕ) (stop : t ≡ next_stop h.cursor.col) where
-  pub tab_column : (c : Cursor) → t < h.width → c ≡ at h.cursor.row t → c ≡ tabbed h
-  unfolding tabbed
-  tab_column c k e = picked _ _ _ _ (lt-ltb _ _ (subst (λ (x : ℕ). x < h.width) stop k)) (e ∙ ap (at h.cursor.row) stop)
-
-  pub tab_row : (c : Cursor) (e : ℕ) → h.width ≤ t → e ≡ editable h.keys → h.cursor.row + 1 < e → c ≡ at (h.cursor.row + 1) 0 → c ≡ tabbed h
-  unfolding tabbed
-  tab_row c e k ie r ec =
-      skipped _ _ _ _ (le-ltb _ _ (subst (λ (x : ℕ). h.width ≤ x) stop k))
-      (picked _ _ _ _ (lt-ltb (h.cursor.row + 1) (editable h.keys) (omega arith)) ec)
-
-  pub tab_nowhere : (e : ℕ) → h.width ≤ t → e ≡ editable h.keys → e ≤ h.cursor.row + 1 → h.cursor ≡ tabbed h
-  unfolding tabbed
-  tab_nowhere e k ie r =
-      skipped _ _ _ _ (le-ltb _ _ (subst (λ (x : ℕ). h.width ≤ x) stop k))
-      (skipped _ _ _ _ (le-ltb (h.cursor.row + 1) (editable h.keys) (omega arith)) refl)

@@ -5,15 +5,16 @@ use mathlib.Core.Path.{◌≡◌, refl, sym, ap, ◌∙◌}
 use mathlib.Core.Bool.{Bool, true, false}
 use mathlib.Core.List.{List}
 use native.Mathlib.Omega.{arith}
-use lib.Dec.{eqb}
+use lib.Dec.{eqb, ltb, leb}
 use lib.ListN.{length, get_or, take, drop, length-drop}
 use lib.Seq.{length-take-le, drop-cons}
-use borrow.Author.Tests.{lt-ltb, le-ltb}
+use mir.Val.{bool_byte}
+use borrow.Author.Tests.{lt-ltb, le-ltb, lt-leb, le-leb, ltb-true, ltb-false}
 use Rattle.std.specs.Prelude.{if◌then◌else◌}
-use Rattle.octets.proofs.Bools.{pick, skip}
+use Rattle.std.proofs.lemmas.Bool.{cond-true as pick, cond-false as skip}
+use Rattle.octets.proofs.Bools.{cases}
 use Rattle.grid.specs.Screen.{Screen, with_rows, editable}
-use Rattle.grid.specs.Record.{rows_of, head_of, screen_of}
-use Rattle.grid.specs.Facts.{Valid}
+use Rattle.grid.specs.Record.{rows_of, screen_with}
 use Rattle.grid.specs.declared.head.Head.{Head}
 use Rattle.editor.specs.Print.{Advanced, next_row, newline, write_cell, put_char, print_byte, print}
 use Rattle.editor.specs.Waiting.{scrolls_of, taken}
@@ -23,7 +24,7 @@ use Rattle.editor.specs.declared.print.Effect.TheVariants.{Newline, Char, Nothin
 use Rattle.editor.specs.Given.{Advances, Effects, NextScrolls, Reaches, Waits, effected}
 use Rattle.editor.specs.Call.{rule, apply}
 use Rattle.editor.proofs.PrintParts.{print_next}
-use Rattle.editor.proofs.PrintLaws.{wraps, Printing, piece_start, piece_on}
+use Rattle.editor.proofs.PrintLaws.{wraps, Printing, piece_on}
 use Rattle.editor.proofs.Taken.{bytes_most, taken_is}
 
 -- ---- a choice that the code has made
@@ -35,25 +36,29 @@ module _ {k : ℕ} (b : Bool) (x y : Advanced) where
   pub scrolls_else : b ≡ false → k ≡ y.scrolls → k ≡ (if b then x else y).scrolls
   scrolls_else e p = rw (skip b x y e) p
 
--- ---- next_row_scrolls: e is what editable_rows has answered
+-- ---- next_row_scrolls: e is what editable_rows has answered, and k the number that the code makes of its test
 
-module _ (h : Head) (e : ℕ) (is : e ≡ editable h.keys) where
-  pub next_none : h.cursor.row + 1 < e → NextScrolls h 0
-  unfolding next_row
-  next_none lt = record { made = λ rows. scrolls_then _ _ _ (lt-ltb (h.cursor.row + 1) (editable h.keys) (omega arith)) refl }
-
-  pub next_one : e ≤ h.cursor.row + 1 → NextScrolls h 1
-  unfolding next_row
-  next_one le = record { made = λ rows. scrolls_else _ _ _ (le-ltb (h.cursor.row + 1) (editable h.keys) (omega arith)) refl }
+pub next_scrolls : (h : Head) (e k : ℕ) → e ≡ editable h.keys → k ≡ bool_byte (leb e (h.cursor.row + 1)) → NextScrolls h k
+unfolding next_row
+next_scrolls h e k is bit =
+    let r : ℕ = h.cursor.row in
+    let last : ℕ = editable h.keys in
+    let scrolls : Advanced → Type 0 = λ a. bool_byte (leb e (r + 1)) ≡ a.scrolls in
+    record {
+      made = λ rows. bit
+          ∙ cases scrolls (ltb (r + 1) last) _ _
+          (λ t. ap bool_byte (lt-leb e (r + 1) (omega (arith, ltb-true (r + 1) last t))))
+          (λ f. ap bool_byte (le-leb e (r + 1) (omega (arith, ltb-false (r + 1) last f))));
+    }
 
 -- ---- newline_scrolls: t is what wrapped has answered
 
 module _ (l : List ℕ) (h : Head) (t : Bool) (is : t ≡ wraps l h) where
-  pub newline_stays : t ≡ true → 0 ≡ (newline (record { head = h; rows = rows_of l })).scrolls
+  pub newline_stays : t ≡ true → 0 ≡ (newline (screen_with h l)).scrolls
   unfolding newline
   newline_stays e = scrolls_then _ _ _ (sym is ∙ e) refl
 
-  pub newline_goes : (k : ℕ) → NextScrolls h k → t ≡ false → k ≡ (newline (record { head = h; rows = rows_of l })).scrolls
+  pub newline_goes : (k : ℕ) → NextScrolls h k → t ≡ false → k ≡ (newline (screen_with h l)).scrolls
   unfolding newline
   newline_goes k next e = scrolls_else _ _ _ (sym is ∙ e) (next.made (rows_of l))
 
@@ -61,7 +66,7 @@ module _ (l : List ℕ) (h : Head) (t : Bool) (is : t ≡ wraps l h) where
 
 module _ (l : List ℕ) (h : Head) where
   abbrev this : Screen
-  this = record { head = h; rows = rows_of l }
+  this = screen_with h l
 
   module _ (cr : Bool) (b : ℕ) (e : Effect) (effect : Effects cr b e) where
     pub line_scrolls : (k : ℕ) → e ≡ Newline → k ≡ (newline this).scrolls → k ≡ (print_byte cr this b).scrolls
@@ -113,18 +118,15 @@ module _ (cr : Bool) (s : Screen) (bs : List ℕ) (i left : ℕ) (lt : i < lengt
 
 -- ---- print_waiting: the first i bytes are printed, and have made n scrolls
 
-pub waiting_start : (bs l : List ℕ) (h : Head) → Valid l → h ≡ head_of l → Printing false (screen_of l) bs l l 0 false h 0
-waiting_start bs l h v is = rw is (piece_start false bs l (head_of l) v.size v.screen)
-
-module _ (bs l m : List ℕ) (rows i n : ℕ) (cr : Bool) (h : Head) (p : Printing false (screen_of l) bs l m i cr h n) (most : n ≤ rows) where
+module _ (s : Screen) (bs l m : List ℕ) (rows i n : ℕ) (cr : Bool) (h : Head) (p : Printing false s bs l m i cr h n) (most : n ≤ rows) where
   abbrev this_far : Screen
-  this_far = record { head = h; rows = rows_of m }
+  this_far = screen_with h m
 
-  waits : (i < length bs → rows < scrolls_of (screen_of l) (take (i + 1) bs)) → Waits bs rows l m (record { head = h; taken = i; scrolls = n })
+  waits : (i < length bs → rows < scrolls_of s (take (i + 1) bs)) → Waits bs rows s l m (record { head = h; taken = i; scrolls = n })
   unfolding apply rule
   waits stop =
-      let front : take i bs ≡ taken (screen_of l) rows bs = taken_is (screen_of l) bs rows i p.to (omega (arith, p.count)) stop in
-      let is = p.done ∙ ap (λ (cs : List ℕ). (print false (screen_of l) cs).screen) front in
+      let front : take i bs ≡ taken s rows bs = taken_is s bs rows i p.to (omega (arith, p.count)) stop in
+      let is = p.done ∙ ap (λ (cs : List ℕ). (print false s cs).screen) front in
       record {
         leaves = record {
           becomes = record { size = p.size; front = p.front; rows = ap (λ (x : Screen). x.rows) is };
@@ -132,17 +134,17 @@ module _ (bs l m : List ℕ) (rows i n : ℕ) (cr : Bool) (h : Head) (p : Printi
         };
         front = front;
         to = p.to;
-        scrolled = p.count ∙ ap (λ (cs : List ℕ). scrolls_of (screen_of l) cs) front;
+        scrolled = p.count ∙ ap (λ (cs : List ℕ). scrolls_of s cs) front;
         most = most;
       }
 
-  pub waits_end : length bs ≤ i → Waits bs rows l m (record { head = h; taken = i; scrolls = n })
+  pub waits_end : length bs ≤ i → Waits bs rows s l m (record { head = h; taken = i; scrolls = n })
   waits_end le = waits (λ lt. absurd (omega arith))
 
   module _ (to : ℕ) (lt : i < length bs) (reach : Reaches cr this_far bs i (rows - n) to) where
-    pub waits_stop : to ≡ i → Waits bs rows l m (record { head = h; taken = i; scrolls = n })
+    pub waits_stop : to ≡ i → Waits bs rows s l m (record { head = h; taken = i; scrolls = n })
     waits_stop e =
-        let sum = ap (λ (a : Advanced). a.scrolls) (print_next bs i lt false (screen_of l)) in
+        let sum = ap (λ (a : Advanced). a.scrolls) (print_next bs i lt false s) in
         let same : (print_byte cr this_far (get_or bs i 0)).scrolls ≡ _ = λ j. (print_byte (p.last j) (p.done j) (get_or bs i 0)).scrolls in
         waits (λ _. omega (arith, sum, same, p.count, reach.stop e))
 
@@ -151,5 +153,5 @@ module _ (bs l m : List ℕ) (rows i n : ℕ) (cr : Bool) (h : Head) (p : Printi
       pub more_most : n + w.scrolls ≤ rows
       more_most = omega (arith, reach.few, went.scrolls)
 
-      pub waiting_turn : (to ≡ i → ⊥) → Printing false (screen_of l) bs l m' to (eqb (get_or bs (to - 1) 0) 13) w.head (n + w.scrolls)
-      waiting_turn further = piece_on false bs l (head_of l) m i n cr h p to m' w (omega (arith, reach.from)) reach.within went
+      pub waiting_turn : (to ≡ i → ⊥) → Printing false s bs l m' to (eqb (get_or bs (to - 1) 0) 13) w.pen.head (n + w.scrolls)
+      waiting_turn further = piece_on false s bs l m i n cr h p to m' w (omega (arith, reach.from)) reach.within went

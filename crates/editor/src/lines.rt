@@ -1,62 +1,59 @@
 // The keys that take out, join, submit or end a logical line.
 ghost use Rattle.std.specs.Prelude.{◌≡◌, ◌+◌, ◌<◌};
 ghost use Rattle.grid.specs.Screen.{editable};
-ghost use Rattle.grid.specs.Record.{screen_of, Leaves};
-ghost use Rattle.grid.specs.Facts.{Valid};
+ghost use Rattle.grid.specs.Record.{rows_of, Leaves};
 ghost use Rattle.line.specs.Line.{line_text};
-ghost use Rattle.line.specs.Given.{Known, SpanIs};
 ghost use Rattle.line.specs.Text.{Reads};
 ghost use Rattle.editor.specs.Lines.{take_logical_line, too_long, on_blank_end};
 ghost use Rattle.editor.specs.Call.{CtrlEnter, apply, BreakLine, EscapeLine};
-ghost use Rattle.editor.specs.Given.{Copied};
 
+use crate::pen::Pen;
 use crate::print::{next_row, row_is_blank};
 use grid::head::Head;
 use grid::layout::Record;
+use grid::row::Row;
+use grid::screen::Screen;
 use grid::{head, row};
-use line::head::head_of;
+use line::logical::Line;
 use line::reading::{Reading, read_stripped};
 use line::span::{Span, span_at};
 use line::splice::remove_line;
 use line::text::MAX_LOGICAL;
 use values::cursor::Cursor;
 
-#[tactic(auto, using(crate::proofs::TypingLaws::begun))]
-pub fn escape_line(rec: &mut Record, old: &Record) -> Head
-    requires { Copied rec.old old.now }
-    ensures { Leaves (apply EscapeLine (screen_of old.now)) rec.old rec.new result }
+#[tactic(auto, unfolding(crate::specs::Call::apply, crate::specs::Call::rule, crate::specs::Lines::escape_line))]
+pub fn escape_line(rec: &mut Record, old: &Screen) -> Head
+    requires { rows_of rec.old ≡ old.now.rows }
+    ensures { Leaves (apply EscapeLine old.now) rec.old rec.new result }
 {
-    let h = head_of(old);
-    let span = span_at(old, h, h.cursor.row);
-    remove_line(rec, old, h, span)
+    remove_line(rec, &Line::under_cursor(old))
 }
 
 // Is the cursor's row its span's last, and would the line be too long with the next one?
-#[tactic(auto, using(crate::proofs::LinesLaws::not_last, crate::proofs::LinesLaws::long_tested))]
-fn too_long(rec: &Record, h: Head) -> bool
-    requires { Known rec.now h × (h.cursor.row + 1 < editable h.keys) }
-    ensures { result ≡ too_long (screen_of rec.now) }
+fn too_long(line: &Line) -> bool
+    requires { line.now.head.cursor.row + 1 < editable line.now.head.keys }
+    ensures { result ≡ too_long line.now }
 {
-    let r = h.cursor.row;
-    let span = span_at(rec, h, r);
+    let (s, span) = (line.screen, line.span);
+    let r = s.head.cursor.row;
     if r != span.end {
         return false;
     }
     let next = Span {
         start: r + 1,
-        ..span_at(rec, h, r + 1)
+        end: span_at(s, r + 1).end,
     };
-    let t = read_stripped(rec, h, next);
-    (r - span.start + 1) * h.width + t.len > MAX_LOGICAL
+    let t = read_stripped(s, next);
+    (r - span.start + 1) * s.head.width + t.len > MAX_LOGICAL
 }
 
-pub fn ctrl_enter(rec: &mut Record, old: &Record) -> Head
-    requires { Copied rec.old old.now }
-    ensures { Leaves (apply CtrlEnter (screen_of old.now)) rec.old rec.new result }
+pub fn ctrl_enter(rec: &mut Record, old: &Screen) -> Head
+    requires { rows_of rec.old ≡ old.now.rows }
+    ensures { Leaves (apply CtrlEnter old.now) rec.old rec.new result }
 {
-    let h = head_of(old);
+    let h = old.head;
     let r = h.cursor.row;
-    if r + 1 >= head::editable_rows(h.keys) || too_long(old, h) {
+    if r + 1 >= head::editable_rows(h.keys) || too_long(&Line::under_cursor(old)) {
         return h;
     }
     row::set_flag(rec, r, 1);
@@ -64,44 +61,43 @@ pub fn ctrl_enter(rec: &mut Record, old: &Record) -> Head
 }
 
 // Does the cursor stand in column 0 of an all-space row, the last of a longer span?
-fn on_blank_end(rec: &Record, h: Head, span: Span) -> bool
-    requires { Known rec.now h × SpanIs rec.now h h.cursor.row span.start span.end }
-    ensures { result ≡ on_blank_end (screen_of rec.now) }
+fn on_blank_end(line: &Line) -> bool
+    ensures { result ≡ on_blank_end line.now }
 {
+    let (s, span) = (line.screen, line.span);
     let end = span.end;
-    span.start < end && row_is_blank(rec, end, h.width) && h.cursor == Cursor::new(end, 0)
+    span.start < end
+        && row_is_blank(&Row::of(s.rec, end), s.head.width)
+        && s.head.cursor == Cursor::new(end, 0)
 }
 
 // What `take_logical_line` leaves; its answer is `line_text`.
-pub fn take_logical_line(rec: &mut Record, old: &Record) -> Head
-    requires { Copied rec.old old.now }
-    ensures { Leaves (take_logical_line (screen_of old.now)) rec.old rec.new result }
+pub fn take_logical_line(rec: &mut Record, old: &Screen) -> Head
+    requires { rows_of rec.old ≡ old.now.rows }
+    ensures { Leaves (take_logical_line old.now) rec.old rec.new result }
 {
-    let h = head_of(old);
-    let span = span_at(old, h, h.cursor.row);
-    let end = span.end;
-    if on_blank_end(old, h, span) {
+    let line = Line::under_cursor(old);
+    let end = line.span.end;
+    if on_blank_end(&line) {
         row::set_flag(rec, end - 1, 0);
-        return h;
+        return old.head;
     }
-    next_row(rec, h.with_cursor(Cursor::new(end, 0))).head
+    next_row(rec, Pen::of(old).moved(end, 0)).pen.head
 }
 
 // The reading of the line under the cursor.
 #[tactic(auto, using(crate::proofs::LinesLaws::line_read))]
-pub fn line_text(rec: &Record) -> Reading
-    requires { Valid rec.now }
-    ensures { Reads result (line_text (screen_of rec.now)) }
+pub fn line_text(s: &Screen) -> Reading
+    ensures { Reads result (line_text s.now) }
 {
-    let h = head_of(rec);
-    let span = span_at(rec, h, h.cursor.row);
-    read_stripped(rec, h, span)
+    let line = Line::under_cursor(s);
+    read_stripped(s, line.span)
 }
 
-pub fn break_line(rec: &mut Record) -> Head
-    requires { Valid rec.old }
-    ensures { Leaves (apply BreakLine (screen_of rec.old)) rec.old rec.new result }
+#[tactic(auto, unfolding(crate::specs::Call::apply, crate::specs::Call::rule, crate::specs::Lines::break_line))]
+pub fn break_line(rec: &mut Record, old: &Screen) -> Head
+    requires { rows_of rec.old ≡ old.now.rows }
+    ensures { Leaves (apply BreakLine old.now) rec.old rec.new result }
 {
-    let h = head::read_head(rec);
-    next_row(rec, h).head
+    next_row(rec, Pen::of(old)).pen.head
 }

@@ -1,32 +1,32 @@
 // Printing: bytes written at the cursor, from row to row, and the step to the next row; and the bit of document 02, (l), that a print ended with 13.
-//
-// While a call prints, the head goes from hand to hand and the rows change in the record, whose own head stays as it was.
-ghost use Rattle.std.specs.Prelude.{◌≡◌, ◌≤◌, ◌<◌, take};
+ghost use Rattle.std.specs.Prelude.{◌≡◌, ◌≤◌, take};
 ghost use Rattle.grid.specs.Screen.{is_empty, trim, set_flag};
-ghost use Rattle.grid.specs.Record.{row_of, rows_of, head_of, screen_of, Leaves};
-ghost use Rattle.grid.specs.Facts.{HeadFacts, ScreenFacts, Valid};
+ghost use Rattle.grid.specs.Record.{rows_of, head_of, screen_of, screen_with, Leaves};
 ghost use Rattle.editor.specs.Print.{wrapped, next_row, newline, put_char, print_byte, print, splits};
 ghost use Rattle.editor.specs.Call.{PrintBytes, apply, last_cr};
 ghost use Rattle.editor.specs.Given.{Advances, Effects};
 
+use crate::pen::Pen;
 use grid::head::Head;
 use grid::layout::Record;
+use grid::row::{Blank, Row};
+use grid::screen::Screen;
 use grid::{head, row, valid};
 use values::cursor::Cursor;
 
-// How far printing went: the head that it hands on, and how many rows were scrolled on the way.
+// How far printing went: the pen that it hands on, and how many rows were scrolled on the way.
 #[derive(Clone, Copy)]
 pub struct Went {
-    pub head: Head,
+    pub pen: Pen,
     pub scrolls: usize,
 }
 
 impl Went {
     // With no row scrolled.
-    fn still(head: Head) -> Went
-        ensures { result ≡ record { head = head; scrolls = 0 } }
+    fn still(pen: Pen) -> Went
+        ensures { result ≡ record { pen = pen; scrolls = 0 } }
     {
-        Went { head, scrolls: 0 }
+        Went { pen, scrolls: 0 }
     }
 }
 
@@ -38,73 +38,78 @@ pub struct Run {
     pub scrolls: usize,
 }
 
-// Does the row r hold only spaces, w of them?
+// Does the row hold only spaces, w of them?
 #[tactic(auto, using(crate::proofs::PrintLaws::no_text))]
-pub fn row_is_blank(rec: &Record, r: usize, w: usize) -> bool
-    requires { (r < 25) × (w ≤ 80) }
-    ensures { result ≡ is_empty (trim (take w (row_of rec.now r).chars)) }
+pub fn row_is_blank(row: &Row, w: usize) -> bool
+    requires { w ≤ 80 }
+    ensures { result ≡ is_empty (trim (take w row.now.chars)) }
 {
-    row::text_length(rec, r, w) == 0
+    row.text_length(w) == 0
 }
 
 // To the next row's column 0, scrolling on the last editable row.
-pub fn next_row(rec: &mut Record, h: Head) -> Went
-    requires { HeadFacts h }
-    ensures { Advances (next_row (record { head = h; rows = rows_of rec.old })) rec.old rec.new result }
+pub fn next_row(rec: &mut Record, pen: Pen) -> Went
+    ensures { Advances (next_row (screen_with pen.head rec.old)) rec.old rec.new result }
 {
+    let h = pen.head;
     let r = h.cursor.row;
     let e = head::editable_rows(h.keys);
     if r + 1 < e {
-        return Went::still(h.with_cursor(Cursor::new(r + 1, 0)));
+        return Went::still(pen.moved(r + 1, 0));
     }
-    row::scroll_up(rec, e, h.width, h.attr);
+    let blank = Blank {
+        width: h.width,
+        attr: h.attr,
+    };
+    row::scroll_up(rec, e, blank);
     Went {
-        head: h.with_cursor(Cursor::new(r, 0)),
+        pen: pen.moved(r, 0),
         scrolls: 1,
     }
 }
 
 // Does the cursor stand in column 0 of a blank row, below a flagged one?
-pub fn wrapped(rec: &Record, h: Head) -> bool
-    requires { HeadFacts h }
-    ensures { result ≡ wrapped (record { head = h; rows = rows_of rec.now }) }
+pub fn wrapped(rec: &Record, pen: Pen) -> bool
+    ensures { result ≡ wrapped (screen_with pen.head rec.now) }
 {
+    let h = pen.head;
     let r = h.cursor.row;
-    h.cursor.col == 0 && 0 < r && row::flag_at(rec, r - 1) == 1 && row_is_blank(rec, r, h.width)
+    h.cursor.col == 0
+        && 0 < r
+        && Row::of(rec, r - 1).flag() == 1
+        && row_is_blank(&Row::of(rec, r), h.width)
 }
 
-fn newline(rec: &mut Record, h: Head) -> Went
-    requires { HeadFacts h }
-    ensures { Advances (newline (record { head = h; rows = rows_of rec.old })) rec.old rec.new result }
+fn newline(rec: &mut Record, pen: Pen) -> Went
+    ensures { Advances (newline (screen_with pen.head rec.old)) rec.old rec.new result }
 {
-    if !wrapped(rec, h) {
-        return next_row(rec, h);
+    if !wrapped(rec, pen) {
+        return next_row(rec, pen);
     }
     // What filled the row above has already gone to this one.
-    row::set_flag(rec, h.cursor.row - 1, 0);
-    Went::still(h)
+    row::set_flag(rec, pen.head.cursor.row - 1, 0);
+    Went::still(pen)
 }
 
 // Flags the cursor's row, which is full, and goes to the next.
-fn wrap(rec: &mut Record, h: Head) -> Went
-    requires { HeadFacts h }
-    ensures { Advances (next_row (record { head = h; rows = set_flag (rows_of rec.old) h.cursor.row 1 })) rec.old rec.new result }
+fn wrap(rec: &mut Record, pen: Pen) -> Went
+    ensures { Advances (next_row (record { head = pen.head; rows = set_flag (rows_of rec.old) pen.head.cursor.row 1 })) rec.old rec.new result }
 {
-    row::set_flag(rec, h.cursor.row, 1);
-    next_row(rec, h)
+    row::set_flag(rec, pen.head.cursor.row, 1);
+    next_row(rec, pen)
 }
 
 // The Rust first scrolls where the cursor is below the editable rows: of a valid record it never is.
-fn put_print_char(rec: &mut Record, h: Head, ch: u8) -> Went
-    requires { HeadFacts h }
-    ensures { Advances (put_char (record { head = h; rows = rows_of rec.old }) ch) rec.old rec.new result }
+fn put_print_char(rec: &mut Record, pen: Pen, ch: u8) -> Went
+    ensures { Advances (put_char (screen_with pen.head rec.old) ch) rec.old rec.new result }
 {
+    let h = pen.head;
     let Cursor { row, col } = h.cursor;
     row::put_cell(rec, row, col, ch, h.attr);
     if col + 1 < h.width {
-        return Went::still(h.with_cursor(Cursor::new(row, col + 1)));
+        return Went::still(pen.moved(row, col + 1));
     }
-    wrap(rec, h)
+    wrap(rec, pen)
 }
 
 // What a byte does when it is printed.
@@ -129,44 +134,44 @@ pub fn effect_of(cr: bool, b: u8) -> Effect
     }
 }
 
-fn print_byte(rec: &mut Record, h: Head, cr: bool, b: u8) -> Went
-    requires { HeadFacts h }
-    ensures { Advances (print_byte cr (record { head = h; rows = rows_of rec.old }) b) rec.old rec.new result }
+fn print_byte(rec: &mut Record, pen: Pen, cr: bool, b: u8) -> Went
+    ensures { Advances (print_byte cr (screen_with pen.head rec.old) b) rec.old rec.new result }
 {
     match effect_of(cr, b) {
-        Effect::Newline => newline(rec, h),
-        Effect::Char => put_print_char(rec, h, b),
-        Effect::Nothing => Went::still(h),
+        Effect::Newline => newline(rec, pen),
+        Effect::Char => put_print_char(rec, pen, b),
+        Effect::Nothing => Went::still(pen),
     }
 }
 
 // Prints the bytes; before says that 13 stood before them. The one loop over bytes: a function with one caller, as print_byte, is compiled into it.
-pub fn print_piece(rec: &mut Record, start: Head, before: bool, bytes: &[u8]) -> Went
-    requires { ScreenFacts (record { head = start; rows = rows_of rec.old }) }
-    ensures { Advances (print before (record { head = start; rows = rows_of rec.old }) bytes.now) rec.old rec.new result }
+pub fn print_piece(rec: &mut Record, start: Pen, before: bool, bytes: &[u8]) -> Went
+    ensures { Advances (print before (screen_with start.head rec.old) bytes.now) rec.old rec.new result }
 {
-    let mut h = start;
+    let mut pen = start;
     let mut cr = before;
     let mut scrolls = 0;
     for b in bytes {
-        let w = print_byte(rec, h, cr, *b);
+        let w = print_byte(rec, pen, cr, *b);
         // Of a head printing moves the cursor alone, and a whole head would be copied for each byte.
-        h = h.with_cursor(w.head.cursor);
+        let Cursor { row, col } = w.pen.head.cursor;
+        pen = pen.moved(row, col);
         cr = *b == b'\r';
         scrolls += w.scrolls;
     }
-    Went { head: h, scrolls }
+    Went { pen, scrolls }
 }
 
-pub fn print_bytes(rec: &mut Record, bytes: &[u8]) -> Head
-    requires { Valid rec.old }
-    ensures { Leaves (apply (PrintBytes bytes.now) (screen_of rec.old)) rec.old rec.new result }
+#[tactic(auto, unfolding(crate::specs::Call::apply, crate::specs::Call::rule))]
+pub fn print_bytes(rec: &mut Record, old: &Screen, bytes: &[u8]) -> Head
+    requires { rows_of rec.old ≡ old.now.rows }
+    ensures { Leaves (apply (PrintBytes bytes.now) old.now) rec.old rec.new result }
 {
-    let h = head::read_head(rec);
-    print_piece(rec, h, false, bytes).head
+    print_piece(rec, Pen::of(old), false, bytes).pen.head
 }
 
 // The bit that a print of bytes leaves, where the record was rec before.
+// Kept so: a number and no bool, since of an empty print it hands on whatever the record holds.
 pub fn cr_left(rec: &Record, bytes: &[u8]) -> u8
     ensures { result ≡ last_cr (head_of rec.now).cr bytes.now }
 {

@@ -1,43 +1,35 @@
 // Tab: spaces typed while insert is on, else a move.
 ghost use Rattle.std.specs.Prelude.{◌<◌, ◌≡◌};
-ghost use Rattle.grid.specs.Record.{screen_of};
-ghost use Rattle.grid.specs.Facts.{HeadFacts, Valid};
+ghost use Rattle.grid.specs.Record.{rows_of, Leaves};
 ghost use Rattle.editor.specs.Tab.{type_spaces, next_stop, tabbed};
 ghost use Rattle.editor.specs.Call.{Tab, apply};
-ghost use Rattle.editor.specs.Given.{SpaceTyped, Ends};
 
 use crate::typing::type_char;
 use grid::head;
 use grid::head::Head;
 use grid::layout::Record;
-use line::head::head_of;
+use grid::screen::Screen;
 use values::cursor::Cursor;
 
-// One space typed, after which the record is valid again: its head goes into it, with the stamp that it had.
-fn type_space(rec: &mut Record) -> Head
-    requires { Valid rec.old }
-    ensures { SpaceTyped rec.old rec.new result }
+// n spaces, until one leaves the cursor still. Each is typed on the rows that the one before left, with the head that it handed back.
+fn type_spaces(rec: &mut Record, old: &Screen, n: usize) -> Head
+    requires { rows_of rec.old ≡ old.now.rows }
+    ensures { Leaves (type_spaces n old.now) rec.old rec.new result }
 {
-    let old = *rec;
-    let g = type_char(rec, &old, b' ');
-    head::write_front(rec, g, head::read_stamp(&old));
-    g
-}
-
-// n spaces, until one leaves the cursor still.
-#[tactic(auto, using(crate::proofs::TabLaws::spaced_still, crate::proofs::TabLaws::spaced_turn, crate::proofs::TabLaws::spaced_end))]
-fn type_spaces(rec: &mut Record, n: usize) -> Head
-    requires { Valid rec.old }
-    ensures { Ends (type_spaces n (screen_of rec.old)) rec.new result }
-{
+    let mut h = old.head;
     for _ in 0..n {
-        let h = head_of(rec);
-        let g = type_space(rec);
+        let copy = *rec;
+        let s = Screen {
+            rec: &copy,
+            head: h,
+        };
+        let g = type_char(rec, &s, b' ');
         if h.cursor == g.cursor {
             return g;
         }
+        h = g;
     }
-    head_of(rec)
+    h
 }
 
 #[tactic(auto, using(crate::proofs::TabLaws::after_stop, crate::proofs::TabLaws::next_stop_is))]
@@ -49,11 +41,11 @@ fn next_stop(c: usize) -> usize
 }
 
 // Where tab goes with insert off.
-#[tactic(auto, using(crate::proofs::TabLaws::tab_column, crate::proofs::TabLaws::tab_nowhere, crate::proofs::TabLaws::tab_row))]
-fn tab_cursor(h: Head) -> Cursor
-    requires { HeadFacts h }
-    ensures { result ≡ tabbed h }
+#[tactic(auto, using(grid::proofs::ScreenLaws::head_seen), unfolding(crate::specs::Tab::tabbed))]
+fn tab_cursor(s: &Screen) -> Cursor
+    ensures { result ≡ tabbed s.now.head }
 {
+    let h = s.head;
     let r = h.cursor.row;
     let t = next_stop(h.cursor.col);
     if t < h.width {
@@ -65,14 +57,14 @@ fn tab_cursor(h: Head) -> Cursor
     h.cursor
 }
 
-pub fn tab(rec: &mut Record) -> Head
-    requires { Valid rec.old }
-    ensures { Ends (apply Tab (screen_of rec.old)) rec.new result }
+pub fn tab(rec: &mut Record, old: &Screen) -> Head
+    requires { rows_of rec.old ≡ old.now.rows }
+    ensures { Leaves (apply Tab old.now) rec.old rec.new result }
 {
-    let h = head_of(rec);
+    let h = old.head;
     let c = h.cursor.col;
     if h.insert == 1 {
-        return type_spaces(rec, next_stop(c) - c);
+        return type_spaces(rec, old, next_stop(c) - c);
     }
-    h.with_cursor(tab_cursor(h))
+    h.with_cursor(tab_cursor(old))
 }

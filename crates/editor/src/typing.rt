@@ -1,114 +1,119 @@
 // The typing keys: each takes the editing content, changes it and splices it in again.
 ghost use Rattle.std.specs.Prelude.{if◌then◌else◌, ◌≡◌, ◌-◌, ◌≤◌, ◌<◌, eqb};
-ghost use Rattle.grid.specs.Facts.{Valid};
-ghost use Rattle.grid.specs.Record.{screen_of, Leaves};
-ghost use Rattle.line.specs.Line.{MAX-LOGICAL};
+ghost use Rattle.grid.specs.Record.{rows_of, Leaves};
+ghost use Rattle.line.specs.Line.{MAX-LOGICAL, content, index};
 ghost use Rattle.line.specs.Splice.{splice};
 ghost use Rattle.line.specs.Text.{text_of};
 ghost use Rattle.editor.specs.Typing.{type_within};
 ghost use Rattle.editor.specs.Call.{TypeChar, TypeLimited, Backspace, DeleteChar, EraseToEnd, apply};
-ghost use Rattle.editor.specs.Given.{Copied, Under, without};
+ghost use Rattle.editor.specs.Given.{without};
 
-use grid::head;
 use grid::head::Head;
 use grid::layout::Record;
+use grid::screen::Screen;
 use line::content::content_and_cursor;
-use line::head::head_of;
-use line::span::{Span, span_at};
+use line::logical::Line;
 use line::splice::splice_logical;
 use line::text::{MAX_LOGICAL, Text};
+use std::marker::Model;
 
-// The line under a record's cursor, and the record's head.
-#[derive(Clone, Copy)]
-struct Line {
-    head: Head,
-    span: Span,
+// The line under the cursor while it is edited, with its characters.
+#[derive(Drop)]
+struct Edited<'a> {
+    line: Line<'a>,
     text: Text,
 }
 
-impl Line {
-    fn under_cursor(old: &Record) -> Line
-        requires { Valid old.now }
-        ensures { Under old.now result }
+impl<'a> Model for Edited<'a> {
+    ghost use Rattle.grid.specs.Screen.{Screen};
+    ghost use Rattle.line.specs.Line.{content, index};
+    ghost use Rattle.line.specs.Text.{Holds};
+
+    ghost Value = { Screen };
+
+    ghost view = { λ x. x.line };
+
+    ghost invariant = { λ x. Holds x.text (content x.line) (index x.line) };
+}
+
+impl<'a> Edited<'a> {
+    fn under_cursor(screen: &'a Screen<'a>) -> Edited<'a>
+        ensures { result ≡ screen.now }
     {
-        let head = head_of(old);
-        let span = span_at(old, head, head.cursor.row);
-        Line {
-            head,
-            span,
-            text: content_and_cursor(old, head, span),
-        }
+        let line = Line::under_cursor(screen);
+        let text = content_and_cursor(&line);
+        Edited { line, text }
     }
 
     // Puts another text in its place.
-    #[tactic(auto, using(crate::proofs::TypingLaws::begun))]
-    fn spliced(&self, rec: &mut Record, old: &Record, text: Text) -> Head
-        requires { Copied rec.old old.now × Under old.now self.now }
-        ensures { Leaves (splice (screen_of old.now) (text_of text) text.index) rec.old rec.new result }
+    fn spliced(&self, rec: &mut Record, text: Text) -> Head
+        requires { rows_of rec.old ≡ self.now.rows }
+        ensures { Leaves (splice self.now (text_of text) text.index) rec.old rec.new result }
     {
-        splice_logical(rec, old, self.head, self.span, text)
+        splice_logical(rec, &self.line, text)
     }
 
     // Takes the character at an index out, if it has one there.
     #[tactic(auto, using(crate::proofs::TypingLaws::without_none))]
-    fn without(&self, rec: &mut Record, old: &Record, at: usize) -> Head
-        requires { Copied rec.old old.now × Under old.now self.now }
-        ensures { Leaves (without (screen_of old.now) (text_of self.now.text) at) rec.old rec.new result }
+    fn without(&self, rec: &mut Record, at: usize) -> Head
+        requires { rows_of rec.old ≡ self.now.rows }
+        ensures { Leaves (without self.now (content self.now) at) rec.old rec.new result }
     {
         if at >= self.text.len {
-            return self.head;
+            return self.line.head();
         }
-        self.spliced(rec, old, self.text.removed(at))
+        self.spliced(rec, self.text.removed(at))
     }
 }
 
 // ch in the line: inserted, over the character that stands at the cursor, or behind the last one.
-fn type_at(rec: &mut Record, old: &Record, line: &Line, ch: u8, limit: usize) -> Head
-    requires { Copied rec.old old.now × Under old.now line.now × (limit ≤ MAX-LOGICAL) }
-    ensures { Leaves (type_within limit (screen_of old.now) (text_of line.now.text) line.now.text.index ch) rec.old rec.new result }
+fn type_within(rec: &mut Record, edited: &Edited, ch: u8, limit: usize) -> Head
+    requires { (rows_of rec.old ≡ edited.now.rows) × (limit ≤ MAX-LOGICAL) }
+    ensures { Leaves (type_within limit edited.now (content edited.now) (index edited.now) ch) rec.old rec.new result }
 {
-    let t = line.text;
+    let t = edited.text;
+    let h = edited.line.head();
     // Asked for room here, and below whether it is full: so of a wrong test the first fact that falls is one that is false (`must-fail/`).
-    if line.head.insert == 1 {
+    if h.insert == 1 {
         if t.len < limit {
-            return line.spliced(rec, old, t.inserted(ch));
+            return edited.spliced(rec, t.inserted(ch));
         }
-        return line.head;
+        return h;
     }
     let over = t.index < t.len;
     if over {
-        return line.spliced(rec, old, t.replaced(ch));
+        return edited.spliced(rec, t.replaced(ch));
     }
     if t.len >= limit {
-        return line.head;
+        return h;
     }
-    line.spliced(rec, old, t.extended(ch))
+    edited.spliced(rec, t.extended(ch))
 }
 
-pub fn type_char(rec: &mut Record, old: &Record, ch: u8) -> Head
-    requires { Copied rec.old old.now }
-    ensures { Leaves (apply (TypeChar ch) (screen_of old.now)) rec.old rec.new result }
+#[tactic(auto, unfolding(crate::specs::Call::apply, crate::specs::Call::rule, crate::specs::Typing::type_char, crate::specs::Typing::type_at, crate::specs::Typing::type_limited))]
+pub fn type_char(rec: &mut Record, old: &Screen, ch: u8) -> Head
+    requires { rows_of rec.old ≡ old.now.rows }
+    ensures { Leaves (apply (TypeChar ch) old.now) rec.old rec.new result }
 {
     type_limited(rec, old, ch, MAX_LOGICAL)
 }
 
-#[tactic(auto, using(crate::proofs::TypingLaws::limited_ignored))]
-pub fn type_limited(rec: &mut Record, old: &Record, ch: u8, limit: usize) -> Head
-    requires { Copied rec.old old.now × (limit ≤ MAX-LOGICAL) }
-    ensures { Leaves (apply (TypeLimited ch limit) (screen_of old.now)) rec.old rec.new result }
+pub fn type_limited(rec: &mut Record, old: &Screen, ch: u8, limit: usize) -> Head
+    requires { (rows_of rec.old ≡ old.now.rows) × (limit ≤ MAX-LOGICAL) }
+    ensures { Leaves (apply (TypeLimited ch limit) old.now) rec.old rec.new result }
 {
     if !grid::valid::is_printable(ch) {
-        return head::read_head(old);
+        return old.head;
     }
-    type_at(rec, old, &Line::under_cursor(old), ch, limit)
+    type_within(rec, &Edited::under_cursor(old), ch, limit)
 }
 
-pub fn delete_char(rec: &mut Record, old: &Record) -> Head
-    requires { Copied rec.old old.now }
-    ensures { Leaves (apply DeleteChar (screen_of old.now)) rec.old rec.new result }
+pub fn delete_char(rec: &mut Record, old: &Screen) -> Head
+    requires { rows_of rec.old ≡ old.now.rows }
+    ensures { Leaves (apply DeleteChar old.now) rec.old rec.new result }
 {
-    let line = Line::under_cursor(old);
-    line.without(rec, old, line.text.index)
+    let edited = Edited::under_cursor(old);
+    edited.without(rec, edited.text.index)
 }
 
 // The index of what backspace deletes: the character before the cursor, at the left edge the one under it. (The Rust calls `delete_char` there; here only the
@@ -120,23 +125,20 @@ fn backspace_index(col: usize, i: usize) -> usize
     if 0 < col { i - 1 } else { i }
 }
 
-#[tactic(auto, using(crate::proofs::TypingLaws::index_low))]
-pub fn backspace(rec: &mut Record, old: &Record) -> Head
-    requires { Copied rec.old old.now }
-    ensures { Leaves (apply Backspace (screen_of old.now)) rec.old rec.new result }
+pub fn backspace(rec: &mut Record, old: &Screen) -> Head
+    requires { rows_of rec.old ≡ old.now.rows }
+    ensures { Leaves (apply Backspace old.now) rec.old rec.new result }
 {
-    let line = Line::under_cursor(old);
-    line.without(
-        rec,
-        old,
-        backspace_index(line.head.cursor.col, line.text.index),
-    )
+    let edited = Edited::under_cursor(old);
+    let at = backspace_index(old.head.cursor.col, edited.text.index);
+    edited.without(rec, at)
 }
 
-pub fn erase_to_end(rec: &mut Record, old: &Record) -> Head
-    requires { Copied rec.old old.now }
-    ensures { Leaves (apply EraseToEnd (screen_of old.now)) rec.old rec.new result }
+#[tactic(auto, unfolding(crate::specs::Call::apply, crate::specs::Call::rule, crate::specs::Typing::erase_to_end))]
+pub fn erase_to_end(rec: &mut Record, old: &Screen) -> Head
+    requires { rows_of rec.old ≡ old.now.rows }
+    ensures { Leaves (apply EraseToEnd old.now) rec.old rec.new result }
 {
-    let line = Line::under_cursor(old);
-    line.spliced(rec, old, line.text.cut())
+    let edited = Edited::under_cursor(old);
+    edited.spliced(rec, edited.text.cut())
 }

@@ -18,7 +18,8 @@ use Rattle.grid.specs.Pair.{next_pair}
 use Rattle.grid.specs.Screen.{Screen, State, valid_row}
 use Rattle.grid.specs.declared.pair.Pair.{Pair}
 use Rattle.octets.specs.Refusals.{first_of, all_pass}
-use Rattle.octets.proofs.Bools.{and_both, either, skip}
+use Rattle.std.proofs.lemmas.Bool.{cond-false as skip}
+use Rattle.octets.proofs.Bools.{and_both, either}
 use Rattle.grid.proofs.Validity.{screen_facts, head_valid}
 use Rattle.report.specs.Layout.{ALL-ROWS}
 use Rattle.mirror.specs.Layout.{MIRROR-SIZE}

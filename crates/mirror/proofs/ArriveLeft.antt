@@ -35,7 +35,7 @@ use Rattle.mirror.specs.Layout.{MIRROR-SIZE, NEWEST, RECORD}
 use Rattle.mirror.specs.Mirror.Arrived.{Refused, Noted, Applied}
 use Rattle.mirror.specs.Order.{same_pair, latest}
 use Rattle.mirror.specs.Mirror.{due_at, due, width_without_rows, shown, noted, applied, mirror_front, mirror_bytes, read_mirror, mirrorb, level_of, leaving, arrival_tests, Arrived, arrived, arrived_outcome, arrival}
-use Rattle.mirror.specs.Parts.{Heard}
+use Rattle.mirror.specs.Parts.{Hears}
 use Rattle.mirror.proofs.OrderLaws.{max_is}
 use Rattle.mirror.proofs.MirrorLaws.{part_back}
 use Rattle.mirror.proofs.Conditions.{mirror_facts}
@@ -51,7 +51,7 @@ level_is p q = go (eqb p.sitting q.sitting && eqb p.serial q.serial)
     go false = refl
 
 pub heard_done : (p s : Pair) (l m : List ℕ) (k : ℕ) (a n : Pair) (t : Bool) → a ≡ pair_at l NEWEST → n ≡ ord_max cmp-value.it a p
-    → m ≡ mirror_front n ++ drop RECORD l → t ≡ (eqb s.sitting n.sitting && eqb s.serial n.serial) → k ≡ bool_byte t → Heard p s l m k
+    → m ≡ mirror_front n ++ drop RECORD l → t ≡ (eqb s.sitting n.sitting && eqb s.serial n.serial) → k ≡ bool_byte t → Hears p s l m k
 heard_done p s l m k a n t ea en em et ek =
     let newest : n ≡ latest (pair_at l NEWEST) p = en ∙ max_is a p ∙ ap (λ (x : Pair). latest x p) ea in
     record {
@@ -123,7 +123,7 @@ module _ (l b : List ℕ) where
         unfolding due read_report read_mirror read_state stamp_of
         due_is = id ∙ ap₂ (λ (g : Front) (i : Pair). due_at g.kind g.pair i) ef es
 
-        pub noted_left : d ≡ false → every is_byte l ≡ true → (n : ℕ) (m : List ℕ) → Heard f.pair s l m n → Writes (arrival l b) n m
+        pub noted_left : d ≡ false → every is_byte l ≡ true → (n : ℕ) (m : List ℕ) → Hears f.pair s l m n → Writes (arrival l b) n m
         noted_left e bytes n m h =
             outcome Noted (unfold arrived arrival_tests first_of in rw (eq-eqb (length l) MIRROR-SIZE len, sym p, q, sym due_is ∙ e)) n m
             (unfold arrived_outcome leaving noted read_report read_front read_mirror read_state stamp_of mirror_bytes in record {
@@ -148,7 +148,7 @@ module _ (l b : List ℕ) where
 
           -- k is the part that is lent to be written, and ys what it comes back as
           pub applied_left : w ≡ false → (k ys m : List ℕ) (n : ℕ) → k ≡ drop (length l - SIZE) l → ys ≡ state_bytes (shown (read_report b) (read_state k))
-              → Heard f.pair f.pair (take (length l - SIZE) l ++ ys) m n → Writes (arrival l b) n m
+              → Hears f.pair f.pair (take (length l - SIZE) l ++ ys) m n → Writes (arrival l b) n m
           applied_left e k ys m n ek ey h =
               outcome Applied (unfold arrived arrival_tests first_of in rw (eq-eqb (length l) MIRROR-SIZE len, sym p, q, sym due_is ∙ now, sym wide_is ∙ e)) n m
               (unfold arrived_outcome leaving applied shown read_report read_front read_mirror mirror_bytes in record {

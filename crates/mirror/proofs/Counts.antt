@@ -10,7 +10,8 @@ use native.Mathlib.Omega.{arith}
 use lib.Dec.{eqb}
 use borrow.Author.Tests.{eqb-true, eq-eqb}
 use Rattle.std.specs.Prelude.{if◌then◌else◌}
-use Rattle.octets.proofs.Bools.{cases, either, pick, and_left, and_right, and_both}
+use Rattle.std.proofs.lemmas.Bool.{cond-true as pick}
+use Rattle.octets.proofs.Bools.{cases, either, and_left, and_right, and_both}
 use Rattle.grid.specs.Pair.{next_pair}
 use Rattle.grid.specs.declared.pair.Pair.{Pair}
 use Rattle.report.specs.declared.kind.Kind.{Kind}

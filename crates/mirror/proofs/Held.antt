@@ -14,7 +14,7 @@ use Rattle.grid.specs.Screen.{new_state}
 use Rattle.grid.specs.Facts.{PairFits}
 use Rattle.editor.specs.Lists.{screen_left}
 use Rattle.octets.specs.Refusals.{first_of}
-use Rattle.octets.proofs.Bools.{pick}
+use Rattle.std.proofs.lemmas.Bool.{cond-true as pick}
 use Rattle.report.specs.Layout.{LONGEST}
 use Rattle.mirror.specs.Layout.{MIRROR-SIZE}
 use Rattle.report.specs.declared.kind.Kind.{Kind}

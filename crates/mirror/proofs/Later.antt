@@ -7,7 +7,8 @@ use native.Mathlib.Omega.{arith}
 use lib.Dec.{ltb, eqb}
 use borrow.Author.Tests.{eqb-true, ltb-true}
 use Rattle.std.specs.Prelude.{if◌then◌else◌}
-use Rattle.octets.proofs.Bools.{cases, either, or_cases, and_left, and_right}
+use Rattle.std.proofs.lemmas.Bool.{or_cases}
+use Rattle.octets.proofs.Bools.{cases, either, and_left, and_right}
 use Rattle.grid.specs.declared.pair.Pair.{Pair}
 use Rattle.mirror.specs.Order.{latest}
 use Rattle.mirror.specs.Refusals.{AtMost}

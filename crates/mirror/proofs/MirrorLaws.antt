@@ -1,10 +1,11 @@
 -- `mirror`: its test, its front, and a new one. The part of it that is lent as a record stands from index RECORD on.
 -- Assumes nothing.
-use Prim.Native.Nat.{ℕ, zero, ◌-◌, ◌/◌, ◌%◌}
+use Prim.Native.Nat.{ℕ, zero, ◌-◌, ◌<◌}
 use mathlib.Core.Path.{◌≡◌, refl, ap, ◌∙◌, subst}
 use mathlib.Core.List.{List, ◌++◌}
 use native.Mathlib.Omega.{arith}
-use lib.ListN.{length, take, drop, set}
+use lib.Dec.{eqb}
+use lib.ListN.{length, get_or, take, drop, set}
 use lib.Seq.{drop_at, length-take-le}
 use borrow.Author.Tests.{eq-eqb, ne_eqb}
 use Rattle.std.specs.Array.{IsWholeChunk}
@@ -15,6 +16,8 @@ use Rattle.octets.specs.Part.{write}
 use Rattle.grid.specs.Pair.{pair_bytes}
 use Rattle.grid.specs.declared.pair.Pair.{Pair}
 use Rattle.grid.specs.Record.{state_bytes}
+use Rattle.octets.specs.Number.{number2, bytes2}
+use Rattle.octets.proofs.NumberLaws.{two_tested}
 use Rattle.octets.proofs.PartLaws.{write_none}
 use Rattle.grid.proofs.Record.{heads_eq}
 use Rattle.mirror.specs.Layout.{MIRROR-SIZE, MIRROR-VERSION, NEWEST, RECORD}
@@ -28,13 +31,13 @@ part_back l ys h = drop_at (take (length l - SIZE) l) ys RECORD (length-take-le 
 
 -- ---- the front
 
-pub mirror_fronted : (l m : List ℕ) (newest : Pair) → length l ≡ MIRROR-SIZE → m ≡ write l NEWEST (pair_bytes newest)
-    → set (set (set m 0 (MIRROR-SIZE / 256)) 1 (MIRROR-SIZE % 256)) 2 MIRROR-VERSION ≡ mirror_front newest ++ drop RECORD l
+pub mirror_fronted : (l m m' : List ℕ) (newest : Pair) → length l ≡ MIRROR-SIZE → m ≡ write l NEWEST (pair_bytes newest) → m' ≡ write m 0 (bytes2 MIRROR-SIZE)
+    → set m' 2 MIRROR-VERSION ≡ mirror_front newest ++ drop RECORD l
 unfolding write mirror_front
-mirror_fronted l m newest len e =
-    rw e
+mirror_fronted l m m' newest len e e' =
+    rw (e', e)
     (subst
-    (λ (z : List ℕ). set (set (set (write z NEWEST (pair_bytes newest)) 0 (MIRROR-SIZE / 256)) 1 (MIRROR-SIZE % 256)) 2 MIRROR-VERSION ≡ mirror_front newest ++ drop RECORD l)
+    (λ (z : List ℕ). set (write (write z NEWEST (pair_bytes newest)) 0 (bytes2 MIRROR-SIZE)) 2 MIRROR-VERSION ≡ mirror_front newest ++ drop RECORD l)
     (heads_eq RECORD 0 l (omega arith))
     (rw (write_none (drop RECORD l) zero)))
 
@@ -55,6 +58,11 @@ module _ (w sitting : ℕ) (l : List ℕ) where
       (record { number = refl; left = em ∙ ap (λ (x : List ℕ). mirror_front (record { sitting = sitting; serial = 0 }) ++ x) (part_back k ys kept ∙ e) })
 
 -- ---- `mirror_ok`
+
+-- the length field is looked at as one number, of two bytes
+pub front_tested : (l : List ℕ) → get_or l 1 0 < 256 → mirror_frontb l ≡ eqb (number2 (get_or l 0 0) (get_or l 1 0)) MIRROR-SIZE && eqb (get_or l 2 0) MIRROR-VERSION
+unfolding mirror_frontb
+front_tested l h = rw (two_tested (get_or l 0 0) (get_or l 1 0) MIRROR-SIZE h) refl
 
 pub length_bad : (l : List ℕ) → (length l ≡ MIRROR-SIZE → ⊥) → mirrorb l ≡ false
 unfolding mirrorb

@@ -9,7 +9,8 @@ use native.Mathlib.Omega.{arith}
 use lib.Dec.{ltb}
 use lib.ListN.{length, get_or-eq_default}
 use borrow.Author.Tests.{ltb-true, ltb-false, eq-eqb, ne_eqb}
-use Rattle.octets.proofs.Bools.{either, pick, skip}
+use Rattle.std.proofs.lemmas.Bool.{cond-true as pick, cond-false as skip}
+use Rattle.octets.proofs.Bools.{either}
 use Rattle.mirror.specs.Demand3.{Sitting, in_place, with_number, Paper, sitting, numbered}
 
 module _ (s : Sitting) where

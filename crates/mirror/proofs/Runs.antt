@@ -13,7 +13,7 @@ use Rattle.grid.specs.Screen.{Screen, State, valid_screen, touched_rows, new_sta
 use Rattle.grid.specs.Record.{state_bytes}
 use Rattle.grid.specs.Facts.{StateFacts}
 use Rattle.octets.specs.Refusals.{first_of}
-use Rattle.octets.proofs.Bools.{pick}
+use Rattle.std.proofs.lemmas.Bool.{cond-true as pick}
 use Rattle.editor.specs.Call.{Call}
 use Rattle.editor.specs.Lists.{steps, accepted, record_left}
 use Rattle.editor.specs.Outcome.{creating}

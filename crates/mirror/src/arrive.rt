@@ -1,67 +1,52 @@
 // A report arrives at a mirror.
-ghost use Rattle.std.specs.Prelude.{◌≡◌, ◌+◌, ◌*◌, ◌≤◌, ◌<◌, not, ◌&&◌, eqb, length, drop};
+ghost use Rattle.std.specs.Prelude.{◌≡◌, not, ◌&&◌, eqb, length, drop, map};
 ghost use Rattle.std.specs.Int.Count.{ones};
 ghost use Rattle.octets.specs.Answer.{Writes, answered};
 ghost use Rattle.grid.specs.Record.{head_of, rows_of, read_state, state_bytes, Becomes};
-ghost use Rattle.report.specs.Layout.{ROW-SIZE, ALL-ROWS};
+ghost use Rattle.report.specs.Layout.{ALL-ROWS};
 ghost use Rattle.report.specs.Carried.{bits, merge};
-ghost use Rattle.report.specs.Report.{carried_rows, read_front, read_report};
+ghost use Rattle.report.specs.Report.{read_front, row_in, read_report};
 ghost use Rattle.report.specs.Refusals.{ValidReport};
 ghost use Rattle.mirror.specs.Layout.{RECORD};
 ghost use Rattle.mirror.specs.Mirror.{shown, arrival};
-ghost use Rattle.mirror.specs.Parts.{Room, Placed, PlacedIf, Heard};
+ghost use Rattle.mirror.specs.Parts.{Hears};
 
 use crate::layout::{MirrorRecord, NEWEST};
 use crate::{mirror, order};
 use grid::head::Stamp;
-use grid::layout::{Record, SCREEN_ROWS, STRIDE};
+use grid::layout::{Record, SCREEN_ROWS};
 use grid::pair::Pair;
 use grid::{head, pair, row};
 use octets::answer::Refusal;
 use report::check;
 use report::front::Front;
 use report::layout::{ALL_ROWS, ROW_SIZE};
+use report::row::row_in;
 use values::mask;
 
-// Makes the row r that from index at on, and answers the index behind it.
-#[tactic(auto, using(crate::proofs::ArriveRows::row_placed))]
-fn place_row(rec: &mut Record, r: usize, report: &[u8], at: usize) -> usize
-    requires { (r < 25) × (at + ROW-SIZE ≤ length report.now) }
-    ensures { Placed report.now r at rec.old rec.new result }
+// Replaces the rows of the mask by the carried ones, of which there are as many.
+// Kept so: n goes on only at a row of the mask, so that no two of one length go beside each other.
+fn take_rows(rec: &mut Record, carried: &[[u8; ROW_SIZE]], mask: u32)
+    requires { length carried.now ≡ ones mask }
+    ensures { Becomes rec.old rec.new (merge (bits 25 mask) (map (λ row. row_in row 0) carried.now) (rows_of rec.old)) }
 {
-    row::put_row(rec, r, report[at], report, at + 1, at + 1 + STRIDE);
-    at + ROW_SIZE
-}
-
-// The same if the mask has the row.
-#[tactic(auto, using(crate::proofs::ArriveRows::room_has, crate::proofs::ArriveRows::take_skip, crate::proofs::ArriveRows::take_put))]
-fn take_row(rec: &mut Record, r: usize, report: &[u8], at: usize, mask: u32) -> usize
-    requires { (r < 25) × Room report.now mask r at }
-    ensures { PlacedIf report.now mask r at rec.old rec.new result }
-{
-    if !mask::has_row(mask, r) {
-        return at;
-    }
-    place_row(rec, r, report, at)
-}
-
-// Replaces the rows of the mask by the carried ones, which stand from index from on.
-fn take_rows(rec: &mut Record, report: &[u8], from: usize, mask: u32)
-    requires { length report.now ≡ from + ROW-SIZE * ones mask }
-    ensures { Becomes rec.old rec.new (merge (bits 25 mask) (carried_rows (ones mask) (drop from report.now)) (rows_of rec.old)) }
-{
-    let mut at = from;
+    let mut n = 0;
     for r in 0..SCREEN_ROWS {
-        at = take_row(rec, r, report, at, mask);
+        if mask::has_row(mask, r) {
+            row::put_row(rec, r, &row_in(&carried[n]));
+            n += 1;
+        }
     }
 }
 
 // Makes the record that of the screen which the report of the front f leads to.
+#[tactic(auto, using(crate::proofs::ArriveRows::start_known, crate::proofs::ArriveRows::many_known, crate::proofs::ArriveRows::front_known))]
 fn show(rec: &mut Record, report: &[u8], f: Front)
     requires { ValidReport report.now × (f ≡ read_front report.now) }
     ensures { rec.new ≡ state_bytes (shown (read_report report.now) (read_state rec.old)) }
 {
-    take_rows(rec, report, f.kind.rows_at(), f.mask);
+    let (carried, _) = report[f.kind.rows_at()..].as_chunks();
+    take_rows(rec, carried, f.mask);
     head::write_front(
         rec,
         f.head,
@@ -80,8 +65,9 @@ fn width_without_rows(mir: &MirrorRecord, f: Front) -> bool
 }
 
 // Raises the newest pair to p, if that is later, and answers 1 if it is then the one shown, else 0.
+// Kept so: a number, since it is the level that the call answers.
 fn hear(mir: &mut MirrorRecord, p: Pair, shown: Pair) -> u32
-    ensures { Heard p shown mir.old mir.new result }
+    ensures { Hears p shown mir.old mir.new result }
 {
     let newest = pair::pair_at(mir, NEWEST).max(p);
     mirror::write_front(mir, newest);

@@ -9,6 +9,7 @@ use grid::layout::Record;
 use grid::pair::Pair;
 use grid::{head, pair};
 use octets::answer::Refusal;
+use octets::number;
 
 // The record of the screen shown.
 pub fn record(mir: &MirrorRecord) -> &Record
@@ -17,13 +18,11 @@ pub fn record(mir: &MirrorRecord) -> &Record
     mir.last_chunk().unwrap()
 }
 
-#[tactic(auto, unfolding(crate::specs::Mirror::mirror_frontb))]
+#[tactic(auto, using(crate::proofs::MirrorLaws::front_tested))]
 fn front_ok(mir: &MirrorRecord) -> bool
     ensures { result ≡ mirror_frontb mir.now }
 {
-    mir[0] == (MIRROR_SIZE / 256) as u8
-        && mir[1] == (MIRROR_SIZE % 256) as u8
-        && mir[2] == MIRROR_VERSION
+    number::two_at(mir, 0) == MIRROR_SIZE && mir[2] == MIRROR_VERSION
 }
 
 // Is the record valid, with nothing touched, and of a pair that is not later than the newest?
@@ -53,8 +52,7 @@ pub fn write_front(mir: &mut MirrorRecord, newest: Pair)
     ensures { mir.new ≡ mirror_front newest ++ drop RECORD mir.old }
 {
     pair::put_pair(mir, NEWEST, newest);
-    mir[0] = (MIRROR_SIZE / 256) as u8;
-    mir[1] = (MIRROR_SIZE % 256) as u8;
+    number::put2(mir, 0, MIRROR_SIZE);
     mir[2] = MIRROR_VERSION;
 }
 

@@ -1,137 +1,98 @@
--- The snapshot: the search for the last filled cell, the rows that are written, and that they are the rule's text.
+-- The snapshot: the search for the last row that shows a character, the rows that are written, and that they are the rule's text.
 -- Assumes nothing.
 use Prim.Native.Nat.{ℕ, zero, suc, ◌+◌, ◌-◌, ◌*◌, ◌≤◌, ◌<◌}
-use mathlib.Core.Path.{◌≡◌, refl, sym, ap, ◌∙◌}
-use mathlib.Core.Bool.{Bool, true, false, ◌&&◌, true≢false}
-use mathlib.Core.List.{List, [], ◌∷◌, ◌++◌, append_assoc}
+use mathlib.Core.Path.{◌≡◌, refl, sym, ap, ap₂, ◌∙◌}
+use mathlib.Core.Bool.{Bool, true, false, not, true≢false}
+use mathlib.Core.List.{List, [], ◌∷◌, ◌++◌, append_assoc, append-nil}
 use native.Mathlib.Numerals.{add-one}
 use native.Mathlib.Omega.{arith}
-use lib.Dec.{eqb}
-use lib.ListN.{length, get_or, take, set, length-append, length-set}
-use lib.Seq.{take-suc, length-take-le, take-take}
-use borrow.Author.Tests.{eq-eqb, ne_eqb}
-use Rattle.std.specs.Prelude.{if◌then◌else◌, Option, None, Some, IfSome, MatchOption}
-use Rattle.grid.specs.Layout.{SIZE}
-use Rattle.grid.specs.Screen.{Row, row_at, no_row, editable, is_empty, trim_by}
+use lib.Dec.{ltb}
+use lib.ListN.{length, take, drop, set, length-append, length-take, length-drop, length-set, drop_of_length-le}
+use lib.Seq.{take-suc, take_all, take-take}
+use borrow.Author.Tests.{lt-ltb}
+use borrow.Rule.Slice.PartMut.{put_mid}
+use Rattle.std.specs.Prelude.{Option, None, Some, IfSome, MatchOption}
+use Rattle.grid.specs.Screen.{Row, Screen, row_at, no_row, editable, is_empty, trim_by}
 use Rattle.octets.specs.Part.{write}
 use Rattle.octets.specs.Answer.{wrote, Writes}
-use Rattle.grid.specs.Record.{row_of, rows_of, screen_of}
+use Rattle.grid.specs.Record.{row_of, screen_with}
 use Rattle.grid.specs.declared.head.Head.{Head}
-use Rattle.grid.proofs.Trim.{trim_out, trim_in}
-use Rattle.octets.proofs.Bools.{cases, pick, skip}
+use Rattle.grid.specs.Facts.{ScreenFacts, Known}
+use Rattle.grid.proofs.ScreenLaws.{head_seen, row_seen, facts_seen}
+use Rattle.grid.proofs.Trim.{trim_front}
+use Rattle.std.proofs.lemmas.Bool.{cond-true as pick, cond-false as skip}
+use Rattle.octets.proofs.Bools.{cases}
 use Rattle.octets.proofs.PartLaws.{length_write, write_append, write_more, write_none, write_front}
-use Rattle.grid.proofs.RowLaws.{length_rows, full_row}
-use Rattle.line.specs.Given.{Known}
 use Rattle.editor.specs.Text.{is_white, row_texts, join_lines, snapshot}
 use Rattle.moves.specs.Shown.{shown, filled_rows, lines, Shows, Filled, Puts}
-use Rattle.moves.proofs.WordsLaws.{row_known, Index, index}
+use Rattle.moves.proofs.WordsLaws.{Index, index}
 
 empty_append : (xs ys : List ℕ) → is_empty ys ≡ false → is_empty (xs ++ ys) ≡ false
 unfolding is_empty
 empty_append [] ys e = e
 empty_append (x ∷ xs) ys e = refl
 
--- ---- a list without its trailing elements that pass a test, one element at a time from the right
+-- ---- `shown_length`
 
-module _ (p : ℕ → Bool) where
-  -- what is left is the front
-  trim_front : (xs : List ℕ) → take (length (trim_by p xs)) xs ≡ trim_by p xs
-  unfolding trim_by
-  trim_front [] = refl
-  trim_front (x ∷ xs) = choose (p x && is_empty (trim_by p xs)) (trim_front xs)
-    where
-      choose : (b : Bool) → take (length (trim_by p xs)) xs ≡ trim_by p xs
-          → take (length (if b then [] else x ∷ trim_by p xs)) (x ∷ xs) ≡ (if b then [] else x ∷ trim_by p xs)
-      choose true e = refl
-      choose false e = ap (λ (r : List ℕ). x ∷ r) e
-
--- ---- `shown_length`: what is found is the length without the elements at the end that pass
-
-module _ (p : ℕ → Bool) (cs : List ℕ) where
-  trimmed : (w n : ℕ) → w ≤ length cs → n ≤ w → (0 < n → p (get_or cs (n - 1) 0) ≡ false)
-      → ((k : ℕ) → n ≤ k → k < w → p (get_or cs k 0) ≡ true) → n ≡ length (trim_by p (take w cs))
-  unfolding trim_by
-  trimmed zero n a h stop none = omega arith
-  trimmed (suc w) n a h stop none =
-      let last : take (suc w) cs ≡ take w cs ++ (get_or cs w 0 ∷ []) = take-suc cs w 0 a in
-      let same : suc w - 1 ≡ w = omega arith in
-      let on : n ≤ w → n ≡ length (trim_by p (take w cs)) = λ b. trimmed w n (omega arith) b stop (λ k c d. none k c (omega arith)) in
-      let out : n ≤ w → trim_by p (take (suc w) cs) ≡ trim_by p (take w cs) =
-      λ b. ap (trim_by p) last ∙ trim_out p (take w cs) _ (none w b (omega arith)) in
-      let whole : n ≡ suc w → length (trim_by p (take (suc w) cs)) ≡ suc w =
-      λ e. ap (λ (x : List ℕ). length (trim_by p x)) last ∙ ap length (trim_in p (take w cs) _ (rw (e, same) at (stop (omega (arith, e)))))
-      ∙ ap length (sym last) ∙ length-take-le (suc w) cs a in
-      grind (arith, on, out, whole)
-
-pub shown_found : (l : List ℕ) (r w n : ℕ) → length l ≡ SIZE → r < 25 → w ≤ 80 → n ≤ w → (0 < n → is_white (get_or (row_of l r).chars (n - 1) 0) ≡ false)
-    → ((k : ℕ) → n ≤ k → k < w → is_white (get_or (row_of l r).chars k 0) ≡ true) → Shows w (row_of l r) n
+pub shown_is : (x : Row) (cs : List ℕ) (w n : ℕ) → cs ≡ x.chars → n ≡ length (trim_by is_white (take w cs)) → n ≤ length (take w cs) → Shows w x n
 unfolding shown
-shown_found l r w n len below wide h stop none =
-    record { is = trimmed is_white (row_of l r).chars w n (omega (arith, (full_row l r len below).chars80)) h stop none; most = h }
+shown_is x cs w n ic is most = record { is = rw ic at is; most = omega (arith, length-take w cs) }
 
--- ---- `last_row`
+-- ---- `shows`, `last_row`
 
-length_empty : (xs : List ℕ) → is_empty xs ≡ eqb (length xs) 0
+not_empty : (xs : List ℕ) → ltb 0 (length xs) ≡ not (is_empty xs)
 unfolding is_empty
-length_empty [] = refl
-length_empty (x ∷ xs) = sym (ne_eqb (suc (length xs)) 0 (λ e. omega (arith, e)))
+not_empty [] = refl
+not_empty (x ∷ xs) = lt-ltb 0 (suc (length xs)) (omega arith)
+
+-- does the row r show a character?
+abbrev shows : ℕ → List Row → ℕ → Bool
+shows w rows r = not (is_empty (shown w (row_at rows r)))
+
+pub row_shows : (l : List ℕ) (h : Head) (s : Screen) (x : Row) (r n : ℕ) → screen_with h l ≡ s → r < 25 → x ≡ row_of l r → Shows h.width x n
+    → ltb 0 n ≡ shows s.head.width s.rows r
+row_shows l h s x r n is below ix sh =
+    ap (ltb 0) sh.is ∙ not_empty (shown h.width x)
+    ∙ ap₂ (λ (g : Head) (y : Row). not (is_empty (shown g.width y))) (head_seen l h s is) (row_seen l h s is x r below ix)
 
 module _ (w : ℕ) (rows : List Row) where
-  filled_at : (e n : ℕ) → n ≤ e → (0 < n → is_empty (shown w (row_at rows (n - 1))) ≡ false)
-      → ((k : ℕ) → n ≤ k → k < e → is_empty (shown w (row_at rows k)) ≡ true) → n ≡ filled_rows w rows e
+  filled_at : (e n : ℕ) → n ≤ e → (0 < n → shows w rows (n - 1) ≡ true) → ((k : ℕ) → Index k → n ≤ k → k < e → shows w rows k ≡ false)
+      → n ≡ filled_rows w rows e
   unfolding filled_rows
   filled_at zero n h stop none = omega arith
   filled_at (suc e) n h stop none =
       let same : suc e - 1 ≡ e = omega arith in
-      let on : n ≤ e → n ≡ filled_rows w rows e = λ b. filled_at e n b stop (λ k x c. none k x (omega arith)) in
-      let no : n ≤ e → is_empty (shown w (row_at rows e)) ≡ true = λ b. none e b (omega arith) in
-      let yes : n ≡ suc e → is_empty (shown w (row_at rows e)) ≡ false = λ q. rw (q, same) at (stop (omega (arith, q))) in
+      let on : n ≤ e → n ≡ filled_rows w rows e = λ b. filled_at e n b stop (λ k x y c. none k x y (omega arith)) in
+      let no : n ≤ e → shows w rows e ≡ false = λ b. none e (index e) b (omega arith) in
+      let yes : n ≡ suc e → shows w rows e ≡ true = λ q. rw (q, same) at (stop (omega (arith, q))) in
       grind (arith, on, no, yes)
 
-module _ (l : List ℕ) (e w : ℕ) (below : e ≤ 25) where
-  empty_is_short : (k : ℕ) → k < e → is_empty (shown w (row_at (rows_of l) k)) ≡ eqb (length (shown w (row_of l k))) 0
-  empty_is_short k h = ap (λ (x : Row). is_empty (shown w x)) (row_known l k (omega arith)) ∙ length_empty _
-
-  pub last_found : (r : Option ℕ) → IfSome r (λ i. i < e) → IfSome r (λ i. 0 < length (shown w (row_of l i)))
-      → ((k : ℕ) → Index k → IfSome r (λ i. i < k) → k < e → length (shown w (row_of l k)) ≡ 0)
-      → MatchOption r (Filled w (rows_of l) e 0) (λ i. Filled w (rows_of l) e (i + 1))
-  last_found None h stop none =
-      record {
-        is = filled_at w (rows_of l) e 0 (omega arith) (λ z. absurd (omega (arith, z))) (λ k a b. empty_is_short k b ∙ eq-eqb _ _ (none k (index k) tt b));
-        most = omega arith;
-      }
-  last_found (Some i) h stop none =
+  pub last_found : (e : ℕ) (r : Option ℕ) → IfSome r (λ i. i < e) → IfSome r (λ i. shows w rows i ≡ true)
+      → ((k : ℕ) → Index k → IfSome r (λ i. i < k) → k < e → shows w rows k ≡ false)
+      → MatchOption r (Filled w rows e 0) (λ i. Filled w rows e (i + 1))
+  last_found e None b stop none =
+      record { is = filled_at e 0 (omega arith) (λ z. absurd (omega (arith, z))) (λ k x y z. none k x tt z); most = omega arith }
+  last_found e (Some i) b stop none =
       let same : i + 1 - 1 ≡ i = omega arith in
-      record {
-        is = filled_at w (rows_of l) e (i + 1) (omega arith) (λ z. rw same (empty_is_short i h ∙ ne_eqb _ _ (λ q. omega (arith, stop, q))))
-            (λ k a b. empty_is_short k b ∙ eq-eqb _ _ (none k (index k) (omega arith) b));
-        most = omega arith;
-      }
+      record { is = filled_at e (i + 1) (omega arith) (λ z. rw same stop) (λ k x y z. none k x (omega arith) z); most = omega arith }
 
 -- ---- `put_row`, `put_line`, `put_lines`
 
-pub row_put : (l out m : List ℕ) (r w at n : ℕ) → w ≤ 80 → Shows w (row_of l r) n → m ≡ write out at (take n (row_of l r).chars)
-    → Puts (shown w (row_of l r)) 80 at out m (at + n)
+pub row_put : (x : Row) (cs out m : List ℕ) (w n : ℕ) → w ≤ 80 → Shows w x n → cs ≡ x.chars → m ≡ write out 0 (take n cs) → Puts (shown w x) 80 out m n
 unfolding shown
-row_put l out m r w at n wide s e =
-    let cs : List ℕ = (row_of l r).chars in
-    let k : take n cs ≡ trim_by is_white (take w cs) =
-    sym (take-take n w cs s.most) ∙ ap (λ (i : ℕ). take i (take w cs)) s.is ∙ trim_front is_white (take w cs) in
-    record {
-      next = ap (λ (i : ℕ). at + i) s.is;
-      most = omega arith;
-      size = ap length e ∙ length_write out at _;
-      bytes = e ∙ ap (write out at) k;
-    }
+row_put x cs out m w n wide s ic e =
+    let k : take n cs ≡ trim_by is_white (take w x.chars) =
+    ap (take n) ic ∙ sym (take-take n w x.chars s.most) ∙ ap (λ (i : ℕ). take i (take w x.chars)) s.is ∙ trim_front is_white (take w x.chars) in
+    record { count = s.is; most = omega arith; size = ap length e ∙ length_write out 0 _; bytes = e ∙ ap (write out 0) k }
 
-pub line_put : (text out m : List ℕ) (at n : ℕ) → Puts text 80 at out m n → Puts (text ++ (10 ∷ [])) 81 at out (set m n 10) (n + 1)
-line_put text out m at n p =
+pub line_put : (text out m : List ℕ) (n : ℕ) → Puts text 80 out m n → Puts (text ++ (10 ∷ [])) 81 out (set m n 10) (n + 1)
+line_put text out m n p =
+    let k : n ≡ 0 + length text = omega (arith, p.count) in
     record {
-      next = simp length-append (omega arith);
+      count = simp length-append (omega arith);
       most = omega arith;
       size = length-set m n 10 ∙ p.size;
-      bytes =
-          ap (λ (x : List ℕ). set x n 10) p.bytes ∙ ap (λ (i : ℕ). set (write out at text) i 10) p.next ∙ write_more out at text 10;
+      bytes = ap₂ (λ (x : List ℕ) (i : ℕ). set x i 10) p.bytes k ∙ write_more out 0 text 10;
     }
 
 lines_snoc : (w : ℕ) (xs : List Row) (x : Row) → lines w (xs ++ (x ∷ [])) ≡ lines w xs ++ (shown w x ++ (10 ∷ []))
@@ -144,32 +105,48 @@ take_row : (rows : List Row) (n : ℕ) → n < length rows → take (suc n) rows
 unfolding row_at
 take_row rows n h = take-suc rows n no_row h
 
-module _ (l out : List ℕ) (w : ℕ) where
-  pub lines_start : Puts (lines w (take 0 (rows_of l))) (81 * 0) 0 out out 0
-  unfolding lines
-  lines_start = record { next = refl; most = omega arith; size = refl; bytes = sym (write_none out 0) }
+-- what a write to the front of the rest of a slice leaves
+write_rest : (l : List ℕ) (a : ℕ) (t : List ℕ) → take a l ++ write (drop a l) 0 t ≡ write l a t
+unfolding write
+write_rest [] zero t = refl
+write_rest [] (suc a) t = refl
+write_rest (x ∷ l) zero t = refl
+write_rest (x ∷ l) (suc a) t = ap (λ (r : List ℕ). x ∷ r) (write_rest l a t)
 
-  pub lines_turn : (m m' : List ℕ) (r n at k : ℕ) → r < n → n < 25 → Puts (lines w (take r (rows_of l))) (81 * r) 0 out m at
-      → Puts (shown w (row_of l r) ++ (10 ∷ [])) 81 at m m' k → Puts (lines w (take (r + 1) (rows_of l))) (81 * (r + 1)) 0 out m' k
-  lines_turn m m' r n at k h h' p q =
-      let s : List ℕ = lines w (take r (rows_of l)) in
-      let t : List ℕ = shown w (row_of l r) ++ (10 ∷ []) in
-      let e : lines w (take (r + 1) (rows_of l)) ≡ s ++ t =
-      ap (λ (i : ℕ). lines w (take i (rows_of l))) (add-one r) ∙ ap (lines w) (take_row (rows_of l) r (omega (arith, length_rows l)))
-      ∙ lines_snoc w (take r (rows_of l)) (row_at (rows_of l) r) ∙ ap (λ (x : Row). s ++ (shown w x ++ (10 ∷ []))) (row_known l r (omega arith)) in
-      rw e
-      (record {
-        next = omega (arith, length-append s t);
-        most = omega arith;
-        size = q.size ∙ p.size;
-        bytes = q.bytes ∙ ap (λ (x : List ℕ). write x at t) p.bytes ∙ ap (λ (i : ℕ). write (write out 0 s) i t) p.next ∙ write_append out 0 s t;
-      })
+-- one text behind another
+puts_more : (s t out m m' : List ℕ) (j k at n : ℕ) → j ≤ length out → Puts s j out m at → Puts t k (take (length m - at) (drop at m)) m' n
+    → Puts (s ++ t) (j + k) out (put_mid at (length m - at) m m') (at + n)
+puts_more s t out m m' j k at n room p q =
+    let part : take (length m - at) (drop at m) ≡ drop at m = take_all (length m - at) (drop at m) (rw length-drop (omega arith)) in
+    let rest : drop (length m - at) (drop at m) ≡ [] = drop_of_length-le (drop at m) {i = length m - at} (rw length-drop (omega arith)) in
+    let from : at ≡ 0 + length s = omega (arith, p.count) in
+    let whole : put_mid at (length m - at) m m' ≡ write out 0 (s ++ t) =
+    ap₂ (λ (x y : List ℕ). take at m ++ (x ++ y)) (q.bytes ∙ ap (λ (x : List ℕ). write x 0 t) part) rest
+    ∙ ap (λ (x : List ℕ). take at m ++ x) (append-nil _) ∙ write_rest m at t
+    ∙ ap₂ (λ (x : List ℕ) (i : ℕ). write x i t) p.bytes from ∙ write_append out 0 s t in
+    record { count = omega (arith, length-append s t, p.count, q.count); most = omega arith; size = ap length whole ∙ length_write out 0 (s ++ t); bytes = whole }
 
-  pub lines_end : (m : List ℕ) (r n at : ℕ) → r ≤ n → n ≤ r → Puts (lines w (take r (rows_of l))) (81 * r) 0 out m at
-      → Puts (lines w (take n (rows_of l))) (81 * n) 0 out m at
-  lines_end m r n at h k p =
-      let done : r ≡ n = omega arith in
-      rw done at p
+pub lines_start : (w : ℕ) (rows : List Row) (out : List ℕ) → Puts (lines w (take 0 rows)) (81 * 0) out out 0
+unfolding lines
+lines_start w rows out = record { count = refl; most = omega arith; size = refl; bytes = sym (write_none out 0) }
+
+-- the screen s is read from the record l with the head h
+module _ (l : List ℕ) (h : Head) (s : Screen) (is : screen_with h l ≡ s) (known : Known l h) (x : Row) (r : ℕ) (ix : x ≡ row_of l r) where
+  shown_seen : r < 25 → shown h.width x ≡ shown s.head.width (row_at s.rows r)
+  shown_seen below = ap₂ (λ (g : Head) (y : Row). shown g.width y) (head_seen l h s is) (row_seen l h s is x r below ix)
+
+  pub lines_turn : (out m m' : List ℕ) (at k : ℕ) → r < 24 → 2024 ≤ length out
+      → Puts (lines s.head.width (take r s.rows)) (81 * r) out m at → Puts (shown h.width x ++ (10 ∷ [])) 81 (take (length m - at) (drop at m)) m' k
+      → Puts (lines s.head.width (take (r + 1) s.rows)) (81 * (r + 1)) out (put_mid at (length m - at) m m') (at + k)
+  lines_turn out m m' at k below room p q =
+      let w : ℕ = s.head.width in
+      let f : ScreenFacts s = facts_seen l h s is known in
+      let e : lines w (take (r + 1) s.rows) ≡ lines w (take r s.rows) ++ (shown h.width x ++ (10 ∷ [])) =
+      ap (λ (i : ℕ). lines w (take i s.rows)) (add-one r) ∙ ap (lines w) (take_row s.rows r (omega (arith, f.rows.count)))
+      ∙ lines_snoc w (take r s.rows) (row_at s.rows r)
+      ∙ ap (λ (t : List ℕ). lines w (take r s.rows) ++ (t ++ (10 ∷ []))) (sym (shown_seen (omega arith))) in
+      let n : 81 * (r + 1) ≡ 81 * r + 81 = omega arith in
+      rw (e, n) (puts_more (lines w (take r s.rows)) (shown h.width x ++ (10 ∷ [])) out m m' (81 * r) 81 at k (omega arith) p q)
 
 -- ---- the rule's text is what is written
 
@@ -216,32 +193,28 @@ joined w rows (suc n) h =
     ∙ joined w rows n (omega arith))
     (λ z. join_filled w (take n rows) t z)
 
-module _ (l : List ℕ) (h : Head) (e : ℕ) (out : List ℕ) (p : Known l h) (ie : e ≡ editable h.keys) where
-  text_is : (n : ℕ) → Filled h.width (rows_of l) e n → snapshot (screen_of l) ≡ printed h.width (rows_of l) n
+-- ---- `snapshot`: the screen s is read from the record l with the head h, which has e editable rows
+
+module _ (l : List ℕ) (h : Head) (s : Screen) (is : screen_with h l ≡ s) (known : Known l h) (e : ℕ) (ie : e ≡ editable h.keys) where
+  text_is : (n : ℕ) → Filled s.head.width s.rows e n → snapshot s ≡ printed s.head.width s.rows n
   unfolding snapshot
   text_is n f =
-      let k : e ≤ length (rows_of l) = omega (arith, length_rows l) in
-      ap (λ (x : Head). join_lines (row_texts x.width (take (editable x.keys) (rows_of l)))) (sym p.head)
-      ∙ ap (λ (i : ℕ). join_lines (row_texts h.width (take i (rows_of l)))) (sym ie)
-      ∙ joined h.width (rows_of l) e k ∙ ap (printed h.width (rows_of l)) (sym f.is)
+      let sf : ScreenFacts s = facts_seen l h s is known in
+      let k : e ≡ editable s.head.keys = ie ∙ ap (λ (x : Head). editable x.keys) (head_seen l h s is) in
+      rw (← k) (joined s.head.width s.rows e (omega (arith, sf.rows.count)) ∙ ap (printed s.head.width s.rows) (sym f.is))
 
-  pub shot_none : Filled h.width (rows_of l) e 0 → Writes (wrote (snapshot (screen_of l)) out) 0 out
+  pub shot_none : (out : List ℕ) → Filled s.head.width s.rows e 0 → Writes (wrote (snapshot s) out) 0 out
   unfolding wrote
-  shot_none f = rw (text_is 0 f) (record { number = refl; left = refl })
+  shot_none out f = rw (text_is 0 f) (record { number = refl; left = refl })
 
-  pub shot_done : (m m' : List ℕ) (r at k : ℕ) → 2024 ≤ length out → Filled h.width (rows_of l) e (r + 1)
-      → Puts (lines h.width (take r (rows_of l))) (81 * r) 0 out m at → Puts (shown h.width (row_of l r)) 80 at m m' k
-      → Writes (wrote (snapshot (screen_of l)) out) k m'
+  pub shot_done : (out m m' : List ℕ) (x : Row) (r at k : ℕ) → 2024 ≤ length out → Filled s.head.width s.rows e (r + 1) → x ≡ row_of l r
+      → Puts (lines s.head.width (take r s.rows)) (81 * r) out m at → Puts (shown h.width x) 80 (take (length m - at) (drop at m)) m' k
+      → Writes (wrote (snapshot s) out) (at + k) (put_mid at (length m - at) m m')
   unfolding wrote
-  shot_done m m' r at k room f a b =
-      let w : ℕ = h.width in
-      let s : List ℕ = lines w (take r (rows_of l)) in
-      let t : List ℕ = shown w (row_of l r) in
-      let x : snapshot (screen_of l) ≡ s ++ t =
-      text_is (r + 1) f ∙ ap (printed w (rows_of l)) (add-one r)
-      ∙ ap (λ (y : Row). s ++ shown w y) (row_known l r (omega (arith, p.facts.edit_to, f.most))) in
-      let j : k ≡ length (s ++ t) = omega (arith, length-append s t) in
-      let o : m' ≡ write out 0 (s ++ t) =
-      b.bytes ∙ ap (λ (y : List ℕ). write y at t) a.bytes ∙ ap (λ (y : ℕ). write (write out 0 s) y t) a.next ∙ write_append out 0 s t in
-      let le : length (s ++ t) ≤ length out = omega (arith, p.facts.edit_to, f.most) in
-      rw x (record { number = j; left = o ∙ write_front out (s ++ t) le })
+  shot_done out m m' x r at k room f ix p q =
+      let b : r < 25 = omega (arith, f.most, known.facts.edit_to) in
+      let t : snapshot s ≡ lines s.head.width (take r s.rows) ++ shown h.width x =
+      text_is (r + 1) f ∙ ap (printed s.head.width s.rows) (add-one r)
+      ∙ ap (λ (y : List ℕ). lines s.head.width (take r s.rows) ++ y) (sym (shown_seen l h s is known x r ix b)) in
+      let a = puts_more (lines s.head.width (take r s.rows)) (shown h.width x) out m m' (81 * r) 80 at k (omega arith) p q in
+      rw t (record { number = a.count; left = a.bytes ∙ write_front out (lines s.head.width (take r s.rows) ++ shown h.width x) (omega (arith, a.count, a.most)) })

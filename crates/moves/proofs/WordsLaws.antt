@@ -1,7 +1,7 @@
 -- Words: the test of a cell, the four loops over cells, and the two moves.
 -- A loop's law says that what is left to do from cell i gives the answer, so that each turn opens its definition once.
 -- Assumes nothing.
-use Prim.Native.Nat.{ℕ, zero, suc, ◌+◌, ◌-◌, ◌*◌, ◌/◌, ◌%◌, ◌≤◌, ◌<◌, min}
+use Prim.Native.Nat.{ℕ, zero, suc, ◌+◌, ◌-◌, ◌*◌, ◌/◌, ◌%◌, ◌≤◌, ◌<◌}
 use mathlib.Core.Path.{◌≡◌, refl, sym, ap, ◌∙◌}
 use mathlib.Core.Bool.{Bool, true, false, ◌&&◌}
 use Rattle.std.specs.Char.{is_ascii_alphanumeric}
@@ -9,21 +9,16 @@ use Rattle.std.proofs.Math.Bool.{or_assoc}
 use mathlib.Core.List.{List, []}
 use native.Mathlib.Nat.{mul-le-mul_right, div-lt_iff_lt-mul, mod-lt}
 use native.Mathlib.Omega.{arith}
-use lib.Dec.{leb, eqb}
+use lib.Dec.{leb}
 use lib.ListN.{get_or}
-use borrow.Author.Tests.{eq-eqb, ne_eqb}
-use Rattle.grid.specs.Screen.{Screen, Row, no_row, row_at, with_cursor, move_to, editable}
-use Rattle.grid.specs.Record.{row_of, rows_of, head_of, screen_of, Moves}
-use Rattle.grid.specs.Facts.{HeadFacts}
-use Rattle.values.specs.declared.cursor.Cursor.{Cursor}
+use Rattle.grid.specs.Screen.{Screen, Row, editable}
+use Rattle.grid.specs.Record.{row_of, screen_with}
+use Rattle.grid.specs.Facts.{HeadFacts, Known}
 use Rattle.grid.specs.declared.head.Head.{Head}
-use Rattle.octets.proofs.Bools.{pick, skip, either}
-use Rattle.grid.proofs.RowLaws.{get_d_rows}
-use Rattle.line.specs.Given.{Known}
+use Rattle.octets.proofs.Bools.{either}
+use Rattle.grid.proofs.ScreenLaws.{head_seen, row_seen}
 use Rattle.moves.specs.Cells.{Flat, Cells}
-use Rattle.editor.specs.Words.{is_word, word_at, cell_of, place, back_to_word, word_start, past_word, past_gap, word_left, word_right}
-use Rattle.editor.specs.Call.{WordLeft, WordRight, rule, apply}
-use Rattle.moves.proofs.MotionLaws.{goes}
+use Rattle.editor.specs.Words.{is_word, word_at, back_to_word, word_start, past_word, past_gap}
 
 -- ---- `is_word`
 
@@ -41,25 +36,21 @@ module _ (h : Head) (f : HeadFacts h) where
   pub cells_to : editable h.keys * h.width ≤ 25 * h.width
   cells_to = mul-le-mul_right h.width f.edit_to
 
--- ---- `word_at`
+-- ---- `word_at`: the screen s is read from the record l with the head h
 
-pub row_known : (l : List ℕ) (r : ℕ) → r < 25 → row_at (rows_of l) r ≡ row_of l r
-unfolding row_at
-row_known l r h = get_d_rows l r no_row h
+module _ (l : List ℕ) (h : Head) (s : Screen) (is : screen_with h l ≡ s) (known : Known l h) (i : ℕ) (below : i < 25 * s.head.width) where
+  inside : i < 25 * h.width
+  inside = rw (head_seen l h s is) below
 
-module _ (l : List ℕ) (h : Head) (p : Known l h) (i : ℕ) (below : i < 25 * h.width) where
   pub cell_row : i / h.width < 25
-  cell_row = (div-lt_iff_lt-mul {k = h.width} {x = i} {y = 25} (omega arith)).1 below
+  cell_row = (div-lt_iff_lt-mul {k = h.width} {x = i} {y = 25} (omega arith)).1 inside
 
   pub cell_col : i % h.width < 80
   cell_col = omega (arith, mod-lt i {m = h.width} (omega arith))
 
-  pub word_read : (ch : ℕ) (t : Bool) → ch ≡ get_or (row_of l (i / h.width)).chars (i % h.width) 0 → t ≡ is_word ch → t ≡ word_at (screen_of l) i
+  pub word_read : (x : Row) (ch : ℕ) (t : Bool) → x ≡ row_of l (i / h.width) → ch ≡ get_or x.chars (i % h.width) 0 → t ≡ is_word ch → t ≡ word_at s i
   unfolding word_at
-  word_read ch t ic it =
-      let k : get_or (row_at (rows_of l) (i / h.width)).chars (i % h.width) 0 ≡ ch =
-      ap (λ (x : Row). get_or x.chars (i % h.width) 0) (row_known l (i / h.width) cell_row) ∙ sym ic in
-      it ∙ ap is_word (sym k) ∙ ap (λ (x : Head). is_word (get_or (row_at (rows_of l) (i / x.width)).chars (i % x.width) 0)) p.head
+  word_read x ch t ix ic it = rw (← (head_seen l h s is), ← (row_seen l h s is x (i / h.width) cell_row ix)) (it ∙ ap is_word ic)
 
 -- ---- the searches: what is found is the first cell on the way at which the rule stops
 
@@ -131,49 +122,10 @@ module _ (s : Screen) where
   past_word_le zero i = omega arith
   past_word_le (suc k) i = either (λ (n : ℕ). n ≤ i + suc k) (word_at s i) (past_word s k (suc i)) i (omega (arith, past_word_le k (suc i))) (omega arith)
 
--- ---- `word_left`, `word_right`
+  -- ---- `word_left`, `word_right`: where a search stops, the next one begins
 
-module _ (l : List ℕ) (h : Head) (p : Known l h) where
-  cell_is : (i : ℕ) → Flat h i → i ≡ cell_of (screen_of l)
-  unfolding cell_of
-  cell_is i f = f.is ∙ ap (λ (x : Head). x.cursor.row * x.width + x.cursor.col) p.head
+  pub left_inside : (i j : ℕ) → Flat s.head i → j ≡ back_to_word s (i - 1) → j < 25 * s.head.width
+  left_inside i j f e = omega (arith, back_le (i - 1))
 
-  -- where the rule goes from a cell that is not the first
-  left_to : Cursor
-  left_to = place (head_of l).width (word_start (screen_of l) (back_to_word (screen_of l) (cell_of (screen_of l) - 1)))
-
-  pub left_none : (i : ℕ) → Flat h i → i ≡ 0 → Moves (apply WordLeft (screen_of l)) l h
-  unfolding apply rule word_left left_to
-  left_none i f z =
-      let s : Screen = screen_of l in
-      rw (pick (eqb (cell_of s) 0) s (move_to s left_to) (eq-eqb (cell_of s) 0 (sym (cell_is i f) ∙ z))) (record { rows = refl; head = p.head })
-
-  pub left_inside : (i j : ℕ) → Flat h i → j ≡ back_to_word (screen_of l) (i - 1) → j < 25 * h.width
-  left_inside i j f e = omega (arith, back_le (screen_of l) (i - 1))
-
-  pub left_done : (i j k : ℕ) (g : Head) → Flat h i → (i ≡ 0 → ⊥) → j ≡ back_to_word (screen_of l) (i - 1) → k ≡ word_start (screen_of l) j
-      → g ≡ with_cursor h (place h.width k) → Moves (apply WordLeft (screen_of l)) l g
-  unfolding apply rule word_left left_to
-  left_done i j k g f ne ij ik ig =
-      let s : Screen = screen_of l in
-      let at : k ≡ word_start s (back_to_word s (cell_of s - 1)) = ik ∙ ap (word_start s) (ij ∙ ap (λ (n : ℕ). back_to_word s (n - 1)) (cell_is i f)) in
-      rw (skip (eqb (cell_of s) 0) s (move_to s left_to) (ne_eqb (cell_of s) 0 (λ q. ne (cell_is i f ∙ q))))
-      (rw at at (goes l h p (λ (x : Head). place x.width k) _ g refl ig))
-
-  cells_of : (max : ℕ) → Cells h max → max ≡ editable (head_of l).keys * (head_of l).width
-  cells_of max f = f.is ∙ ap (λ (x : Head). editable x.keys * x.width) p.head
-
-  pub right_inside : (max i j : ℕ) → Cells h max → Flat h i → j ≡ past_word (screen_of l) (max - i) i → j ≤ max
-  right_inside max i j f g e = omega (arith, past_word_le (screen_of l) (max - i) i)
-
-  module _ (max i j k : ℕ) (g : Head) (f : Cells h max) (fi : Flat h i) (ij : j ≡ past_word (screen_of l) (max - i) i)
-      (ik : k ≡ past_gap (screen_of l) (max - j) j) where
-    pub right_done : (n : ℕ) → n ≡ min k (max - 1) → g ≡ with_cursor h (place h.width n) → Moves (apply WordRight (screen_of l)) l g
-    unfolding apply rule word_right
-    right_done n e ig =
-        let s : Screen = screen_of l in
-        let m = cells_of max f in
-        let c = cell_is i fi in
-        let a : j ≡ past_word s (editable (head_of l).keys * (head_of l).width - cell_of s) (cell_of s) = rw (m, c) at ij in
-        let b : k ≡ past_gap s (editable (head_of l).keys * (head_of l).width - j) j = rw m at ik in
-        rw (rw (b, a, m) at e) at (goes l h p (λ (x : Head). place x.width n) _ g refl ig)
+  pub right_inside : (max i j : ℕ) → Cells s.head max → Flat s.head i → j ≡ past_word s (max - i) i → j ≤ max
+  right_inside max i j f g e = omega (arith, past_word_le (max - i) i)

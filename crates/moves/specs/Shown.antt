@@ -1,7 +1,7 @@
 -- How the code makes a snapshot: it looks for the last row that shows a character, and writes the rows up to it.
 -- `editor/specs/Text` has the rule; `proofs/TextLaws` has that the two agree.
 -- Assumes nothing.
-use Rattle.std.specs.Prelude.{if◌then◌else◌, ℕ, zero, suc, ◌+◌, ◌≤◌, ◌≡◌, List, [], ◌∷◌, ◌++◌, length, take}
+use Rattle.std.specs.Prelude.{if◌then◌else◌, ℕ, zero, suc, ◌≤◌, ◌≡◌, List, [], ◌∷◌, ◌++◌, length, take}
 use Rattle.grid.specs.Screen.{Row, row_at, is_empty, trim_by}
 use Rattle.octets.specs.Part.{write}
 use Rattle.editor.specs.Text.{is_white}
@@ -32,9 +32,9 @@ pub record Filled (w : ℕ) (rows : List Row) (e n : ℕ) : Type 0 where
   pub is : n ≡ filled_rows w rows e
   pub most : n ≤ e
 
--- a text of at most k bytes is written to an output from index at on, and n is the index behind it
-pub record Puts (text : List ℕ) (k at : ℕ) (out out' : List ℕ) (n : ℕ) : Type 0 where
-  pub next : n ≡ at + length text
-  pub most : n ≤ at + k
+-- a text of at most k bytes is written to the front of an output, and n is its length
+pub record Puts (text : List ℕ) (k : ℕ) (out out' : List ℕ) (n : ℕ) : Type 0 where
+  pub count : n ≡ length text
+  pub most : n ≤ k
   pub size : length out' ≡ length out
-  pub bytes : out' ≡ write out at text
+  pub bytes : out' ≡ write out 0 text

@@ -1,85 +1,75 @@
-// The arrows, home, `set_cursor` and the end of a line: each reads the head, has the cursor moved, and hands the new head back. No row is written.
+// The arrows, home, `set_cursor` and the end of a line: each looks at the head, has the cursor moved, and hands the new head back. No row is written.
 #![tactic(auto, unfolding(editor::specs::Call::apply, editor::specs::Call::rule))]
 
 ghost use Rattle.grid.specs.declared.head.Head.{Head};
 ghost use Rattle.grid.specs.Screen.{move_to};
-ghost use Rattle.grid.specs.Record.{head_of, screen_of, Moves};
-ghost use Rattle.grid.specs.Facts.{Valid};
-ghost use Rattle.line.specs.Given.{Known};
+ghost use Rattle.grid.specs.Record.{Moves};
+ghost use Rattle.grid.specs.Facts.{HeadFacts};
 ghost use Rattle.editor.specs.Call.{MoveLeft, MoveRight, MoveUp, MoveDown, Home, SetCursor, apply, EndOfLine};
 
 use grid::head;
 use grid::head::Head;
-use grid::layout::Record;
-use line::head::head_of;
+use grid::screen::Screen;
+use line::logical::Line;
 use line::reading::read_stripped;
-use line::span::span_at;
 use values::cursor::Cursor;
 
 // The head with the cursor where `to` takes it.
-fn moved<F: FnOnce(Head) -> Cursor>(rec: &Record, to: F) -> Head
-    requires valid { Valid rec.now }
-    requires callable { (h : Head) → Known rec.now h → F.pre to h }
-    ensures answer { F.post to (head_of rec.now) result.cursor }
-    ensures rest { Moves (move_to (screen_of rec.now) result.cursor) rec.now result }
+#[tactic(auto, unfolding(grid::specs::Screen::move_to))]
+fn moved<F: FnOnce(Head) -> Cursor>(s: &Screen, to: F) -> Head
+    requires callable { (h : Head) → HeadFacts h → F.pre to h }
+    ensures answer { F.post to s.now.head result.cursor }
+    ensures rest { Moves (move_to s.now result.cursor) s.now result }
 {
-    let h = head_of(rec);
+    let h = s.head;
     h.with_cursor(to(h))
 }
 
-pub fn move_left(rec: &Record) -> Head
-    requires { Valid rec.now }
-    ensures { Moves (apply MoveLeft (screen_of rec.now)) rec.now result }
+pub fn move_left(s: &Screen) -> Head
+    ensures { Moves (apply MoveLeft s.now) s.now result }
 {
-    moved(rec, |h| h.cursor.left(h.width))
+    moved(s, |h| h.cursor.left(h.width))
 }
 
-pub fn move_right(rec: &Record) -> Head
-    requires { Valid rec.now }
-    ensures { Moves (apply MoveRight (screen_of rec.now)) rec.now result }
+pub fn move_right(s: &Screen) -> Head
+    ensures { Moves (apply MoveRight s.now) s.now result }
 {
-    moved(
-        rec,
-        |h| h.cursor.right(h.width, head::editable_rows(h.keys)),
-    )
+    moved(s, |h| h.cursor.right(h.width, head::editable_rows(h.keys)))
 }
 
-pub fn move_up(rec: &Record) -> Head
-    requires { Valid rec.now }
-    ensures { Moves (apply MoveUp (screen_of rec.now)) rec.now result }
+pub fn move_up(s: &Screen) -> Head
+    ensures { Moves (apply MoveUp s.now) s.now result }
 {
-    moved(rec, |h| h.cursor.up())
+    moved(s, |h| h.cursor.up())
 }
 
-pub fn move_down(rec: &Record) -> Head
-    requires { Valid rec.now }
-    ensures { Moves (apply MoveDown (screen_of rec.now)) rec.now result }
+pub fn move_down(s: &Screen) -> Head
+    ensures { Moves (apply MoveDown s.now) s.now result }
 {
-    moved(rec, |h| h.cursor.down(head::editable_rows(h.keys)))
+    moved(s, |h| h.cursor.down(head::editable_rows(h.keys)))
 }
 
-pub fn home(rec: &Record) -> Head
-    requires { Valid rec.now }
-    ensures { Moves (apply Home (screen_of rec.now)) rec.now result }
+pub fn home(s: &Screen) -> Head
+    ensures { Moves (apply Home s.now) s.now result }
 {
-    moved(rec, |h| h.cursor.home())
+    moved(s, |h| h.cursor.home())
 }
 
-pub fn set_cursor(rec: &Record, row: u32, col: u32) -> Head
-    requires { Valid rec.now }
-    ensures { Moves (apply (SetCursor row col) (screen_of rec.now)) rec.now result }
+pub fn set_cursor(s: &Screen, row: u32, col: u32) -> Head
+    ensures { Moves (apply (SetCursor row col) s.now) s.now result }
 {
+    // Kept so: casts, since no `From` leads from u32 to usize, and `try_from` would have a case that never comes.
     let given = Cursor::new(row as usize, col as usize);
-    moved(rec, |h| given.clamp(h.width, head::editable_rows(h.keys)))
+    moved(s, |h| given.clamp(h.width, head::editable_rows(h.keys)))
 }
 
-pub fn end_of_line(rec: &Record) -> Head
-    requires { Valid rec.now }
-    ensures { Moves (apply EndOfLine (screen_of rec.now)) rec.now result }
+#[tactic(auto, using(crate::proofs::MotionLaws::end_row_fits), unfolding(editor::specs::Call::apply, editor::specs::Call::rule, editor::specs::Motion::end_of_line, grid::specs::Screen::move_to, line::specs::Line::start_of, line::specs::Line::line_text))]
+pub fn end_of_line(s: &Screen) -> Head
+    ensures { Moves (apply EndOfLine s.now) s.now result }
 {
-    let h = head_of(rec);
-    let span = span_at(rec, h, h.cursor.row);
-    let t = read_stripped(rec, h, span);
+    let h = s.head;
+    let span = Line::under_cursor(s).span;
+    let t = read_stripped(s, span);
     let r = span.start + t.len / h.width;
     let e = head::editable_rows(h.keys);
     if r < e {

@@ -1,6 +1,6 @@
 -- The reading calls: what a query answers that is refused, and one that is not. l is a lent screen record, h its head.
 -- Assumes nothing.
-use Prim.Native.Nat.{ℕ, ◌<◌}
+use Prim.Native.Nat.{ℕ}
 use mathlib.Core.Path.{◌≡◌, sym, ap, ◌∙◌}
 use mathlib.Core.Bool.{Bool, true}
 use mathlib.Core.List.{List, [], ◌∷◌}
@@ -8,12 +8,10 @@ use borrow.Author.Tests.{eq-eqb, ne_eqb}
 use Rattle.octets.specs.Answer.{refused, number_of}
 use Rattle.octets.specs.declared.answer.Refusal.{Refusal}
 use Rattle.octets.specs.Refusals.{first_of, or_else}
-use Rattle.octets.proofs.Bools.{pick, skip}
+use Rattle.std.proofs.lemmas.Bool.{cond-true as pick, cond-false as skip}
 use Rattle.octets.proofs.Found.{first_append, else_here, else_past, number_some}
-use Rattle.grid.specs.Screen.{row_at, no_row}
-use Rattle.grid.specs.Record.{row_of, rows_of, screen_of}
+use Rattle.grid.specs.Record.{screen_of}
 use Rattle.grid.specs.Refusals.{record_tests}
-use Rattle.grid.proofs.RowLaws.{get_d_rows}
 use Rattle.grid.proofs.RefusalLaws.{record_ordered}
 use Rattle.editor.specs.Outcome.{Query, query_tests, inside, value, asking}
 
@@ -42,7 +40,3 @@ module _ (q : Query) (l : List ℕ) where
     pub ask_value : (n : ℕ) → inside q (screen_of l) ≡ true → n ≡ value q (screen_of l) → n ≡ asking q l
     unfolding asking first_of
     ask_value n ok is = is ∙ sym (pick _ _ _ (eq-eqb _ 0 (sym (own true (sym ok)))))
-
-pub row_is : (l : List ℕ) (r : ℕ) → r < 25 → row_at (rows_of l) r ≡ row_of l r
-unfolding row_at
-row_is l r h = get_d_rows l r no_row h

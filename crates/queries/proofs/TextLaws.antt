@@ -13,6 +13,7 @@ use Rattle.octets.specs.Answer.{refused, number_of, wrote, Writes}
 use Rattle.octets.specs.declared.answer.Refusal.{Refusal}
 use Rattle.octets.specs.Refusals.{first_of}
 use Rattle.octets.proofs.Found.{unless_err, unless_ok}
+use Rattle.grid.specs.Screen.{Screen}
 use Rattle.grid.specs.Record.{screen_of}
 use Rattle.grid.specs.Facts.{Valid}
 use Rattle.grid.specs.Refusals.{record_tests}
@@ -38,21 +39,22 @@ module _ (q : TextCall) (l out : List ℕ) where
 pub output_long : (k : ℕ) (l out : List ℕ) → 0 ≡ first_of (record_tests (leb k (length out)) l) → k ≤ length out
 output_long k l out none = leb-true _ _ (lengths_known (leb k (length out)) l none)
 
--- r is the record in the slice l
-module _ (l out r : List ℕ) (same : r ≡ l) where
-  pub line_written : (t : Reading) (v : ℕ) (out' : List ℕ) → 0 ≡ first_of (record_tests (leb MAX-LOGICAL (length out)) l) → Reads t (line_text (screen_of r))
+-- s is the screen of the record r in the slice l
+module _ (l out r : List ℕ) (s : Screen) (same : r ≡ l) (is : s ≡ screen_of r) where
+  seen : s ≡ screen_of l
+  seen = is ∙ ap (λ (x : List ℕ). screen_of x) same
+
+  pub line_written : (t : Reading) (v : ℕ) (out' : List ℕ) → 0 ≡ first_of (record_tests (leb MAX-LOGICAL (length out)) l) → Reads t (line_text s)
       → Writes (wrote (take t.len t.bytes) out) v out' → Writes (texting LogicalText l out) v out'
   unfolding room text_of
   line_written t v out' none reads w =
-      text_done LogicalText l out none v out'
-      (subst (λ (x : List ℕ). Writes (wrote x out) v out') (reads.text ∙ ap (λ (x : List ℕ). line_text (screen_of x)) same) w)
+      text_done LogicalText l out none v out' (subst (λ (x : List ℕ). Writes (wrote x out) v out') (reads.text ∙ ap line_text seen) w)
 
   pub snapshot_written : (v : ℕ) (out' : List ℕ) → 0 ≡ first_of (record_tests (leb 2024 (length out)) l)
-      → Writes (wrote (snapshot (screen_of r)) out) v out' → Writes (texting Snapshot l out) v out'
+      → Writes (wrote (snapshot s) out) v out' → Writes (texting Snapshot l out) v out'
   unfolding room text_of
-  snapshot_written v out' none w =
-      text_done Snapshot l out none v out' (subst (λ (x : List ℕ). Writes (wrote (snapshot (screen_of x)) out) v out') same w)
+  snapshot_written v out' none w = text_done Snapshot l out none v out' (subst (λ (x : Screen). Writes (wrote (snapshot x) out) v out') seen w)
 
-pub snapshot_small : (l out out' : List ℕ) (v : ℕ) → Valid l → Writes (wrote (snapshot (screen_of l)) out) v out' → Fits w32 v
+pub snapshot_small : (r out out' : List ℕ) (s : Screen) (v : ℕ) → Valid r → s ≡ screen_of r → Writes (wrote (snapshot s) out) v out' → Fits w32 v
 unfolding wrote
-snapshot_small l out out' v f w = record { fits = omega (arith, snapshot_fits (screen_of l) f.screen, w.number) }
+snapshot_small r out out' s v f is w = record { fits = omega (arith, snapshot_fits s (rw is f.screen), w.number) }

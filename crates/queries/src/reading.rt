@@ -1,14 +1,16 @@
 // The reading calls: they answer a number and change nothing.
-#![tactic(auto, using(grid::proofs::RefusalLaws::range_tested, crate::proofs::ReadingLaws::row_is, crate::proofs::ReadingLaws::ask_refused, crate::proofs::ReadingLaws::ask_outside, crate::proofs::ReadingLaws::ask_value), unfolding(crate::specs::Parts::cell_of, editor::specs::Outcome::value, editor::specs::Outcome::inside))]
+// Kept so: to C a number is a u32, and here a usize; no `From` leads from one to the other, so it is cast, and the proof has it that it fits.
+#![tactic(auto, using(grid::proofs::RefusalLaws::range_tested, editor::proofs::PrintLaws::row_is, crate::proofs::ReadingLaws::ask_refused, crate::proofs::ReadingLaws::ask_outside, crate::proofs::ReadingLaws::ask_value), unfolding(crate::specs::Parts::cell_of, editor::specs::Outcome::value, editor::specs::Outcome::inside))]
 
 ghost use Rattle.std.specs.Prelude.{◌≡◌, ◌<◌};
 ghost use Rattle.octets.specs.Answer.{answered};
 ghost use Rattle.queries.specs.Parts.{cell_of};
 ghost use Rattle.editor.specs.Outcome.{asking, AskWidth, AskCursor, AskAttr, AskEditableRows, AskCell, AskContinues};
 
+use grid::head;
 use grid::layout::{Record, SCREEN_ROWS};
 use grid::refusal::{in_range, record};
-use grid::{head, row};
+use grid::row::Row;
 use octets::answer::Refusal;
 
 pub fn width(rec: &[u8]) -> Result<u32, Refusal>
@@ -45,7 +47,8 @@ fn cell_at(rec: &Record, r: usize, c: usize) -> u32
     requires { (r < 25) × (c < 80) }
     ensures { result ≡ cell_of rec.now r c }
 {
-    u32::from(row::char_at(rec, r, c)) + 256 * u32::from(row::attr_at(rec, r, c))
+    let row = Row::of(rec, r);
+    u32::from(row.char_at(c)) + 256 * u32::from(row.attr_at(c))
 }
 
 // Character + 256 × attribute, of all 25 rows whatever the keys say.
@@ -65,5 +68,5 @@ pub fn continues(rec: &[u8], r: u32) -> Result<u32, Refusal>
     let rec = record(rec, true)?;
     let r = r as usize;
     in_range(r < SCREEN_ROWS)?;
-    Ok(u32::from(row::flag_at(rec, r)))
+    Ok(u32::from(Row::of(rec, r).flag()))
 }

@@ -4,6 +4,7 @@ ghost use Rattle.editor.specs.Outcome.{texting, LogicalText, Snapshot};
 
 use editor::lines;
 use grid::refusal::record;
+use grid::screen::Screen;
 use line::reading::put_reading;
 use line::text::MAX_LOGICAL;
 use moves::text;
@@ -15,13 +16,14 @@ const MOST_SHOWN: usize = 2024;
 pub fn logical_text(rec: &[u8], out: &mut [u8]) -> Result<u32, Refusal>
     ensures { Writes (texting LogicalText rec.now out.old) (answered result) out.new }
 {
-    let rec = record(rec, out.len() >= MAX_LOGICAL)?;
-    Ok(put_reading(out, lines::line_text(rec)))
+    let s = Screen::of(record(rec, out.len() >= MAX_LOGICAL)?);
+    Ok(put_reading(out, lines::line_text(&s)))
 }
 
 pub fn snapshot(rec: &[u8], out: &mut [u8]) -> Result<u32, Refusal>
     ensures { Writes (texting Snapshot rec.now out.old) (answered result) out.new }
 {
-    let rec = record(rec, out.len() >= MOST_SHOWN)?;
-    Ok(text::snapshot(rec, out) as u32)
+    let s = Screen::of(record(rec, out.len() >= MOST_SHOWN)?);
+    // Kept so: a cast, since no `From` leads from usize to u32, and `try_from` would have a case that never comes.
+    Ok(text::snapshot(&s, out) as u32)
 }

@@ -6,7 +6,7 @@ use Rattle.editor.proofs.lines.on_blank_end.Goals as goal
 use Rattle.editor.proofs.lines.on_blank_end.Goals.{then-span-end, else-span-end}
 
 pub returns-then-row_is_blank : goal.returns-then-row_is_blank
-returns-then-row_is_blank c = elim c.if-span-end.branch [ then-span-end w ↦ search (rules, blank_there) | else-span-end w ↦ (cc (le-ltb c.args.span.start c.args.span.end w.if-span-end.false)) ]
+returns-then-row_is_blank c = elim c.if-span-end.branch [ then-span-end w ↦ search (rules, blank_there) | else-span-end w ↦ (cc (le-ltb _ _ w.if-span-end.false)) ]
 
 pub returns-else-row_is_blank : goal.returns-else-row_is_blank
 returns-else-row_is_blank c = elim c.if-span-end.branch [ then-span-end w ↦ search (rules, not_blank) | else-span-end w ↦ search (rules, span_short) ]

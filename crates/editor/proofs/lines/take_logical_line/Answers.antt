@@ -1,7 +1,6 @@
 -- `editor::lines::take_logical_line` meets its contract.
 use Rattle.std.proofs.Common.{rules}
-use Rattle.editor.proofs.LinesLaws.{end_low, take_cleared}
-use Rattle.editor.proofs.LinesLaws.{take_next}
+use Rattle.editor.proofs.LinesLaws.{end_low, take_cleared, take_next}
 use Rattle.editor.proofs.lines.take_logical_line.Goals as goal
 
 pub overflow_sub-end : goal.overflow_sub-end

@@ -5,4 +5,4 @@ use Rattle.moves.proofs.TextLaws.{last_found}
 use Rattle.moves.proofs.text.last_row.Goals as goal
 
 pub returns : goal.returns
-returns c = last_found _ _ _ (search rules) _ (search (rules, ranges)) (search (rules, ranges)) (search (rules, ranges))
+returns c = last_found _ _ _ _ (search (rules, ranges)) (search (rules, ranges)) (search (rules, ranges))

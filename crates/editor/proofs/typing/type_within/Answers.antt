@@ -1,13 +1,13 @@
--- `editor::typing::type_at` meets its contract.
+-- `editor::typing::type_within` meets its contract.
 use Rattle.std.proofs.Common.{rules}
 use Rattle.editor.proofs.TypingLaws.{insert_done, insert_full, replace_done, extend_full, extend_done}
-use Rattle.editor.proofs.typing.type_at.Goals as goal
+use Rattle.editor.proofs.typing.type_within.Goals as goal
 
 pub returns-then-t-limit : goal.returns-then-t-limit
 returns-then-t-limit c = search (rules, insert_done)
 
-pub returns-then-line-eq1 : goal.returns-then-line-eq1
-returns-then-line-eq1 c = search (rules, insert_full)
+pub returns-then-h-eq1 : goal.returns-then-h-eq1
+returns-then-h-eq1 c = search (rules, insert_full)
 
 pub returns-then-over : goal.returns-then-over
 returns-then-over c = search (rules, replace_done)
