@@ -1,214 +1,116 @@
--- A changing call: what it answers and leaves, refused or accepted. The laws are the same for each call c.
--- l is the lent record as it was, n as it is left, r what the call's common part has handed back, h the head that its work hands on.
+-- A changing call c on the lent record l: what it answers and leaves, refused or accepted.
 -- Assumes nothing.
-use Prim.Native.Nat.{ℕ, ◌≤◌}
-use mathlib.Core.Path.{◌≡◌, refl, sym, ap, ap₂, ◌∙◌, subst}
-use mathlib.Core.Bool.{Bool, true, ◌&&◌}
-use mathlib.Core.List.{List, [], ◌∷◌, ◌++◌}
-use mathlib.Core.Logic.{◌≢◌}
-use native.Mathlib.Omega.{arith}
-use lib.Dec.{leb, eqb}
+use Prim.Native.Nat.{ℕ}
+use mathlib.Core.Path.{◌≡◌, refl, sym, ap, ◌∙◌, subst}
+use mathlib.Core.List.{List, ◌++◌}
+use mathlib.Core.Bool.{Bool, true}
+use lib.Dec.{eqb}
 use lib.ListN.{length, drop}
-use borrow.Author.Tests.{eq-eqb, ne_eqb, leb-true}
-use Rattle.std.proofs.Common.{Bor, MutBor}
-use Rattle.std.specs.Fn.{Once}
-use Rattle.std.specs.Prelude.{Result, Ok, Err, OnOk, OnErr}
-use Rattle.octets.specs.Answer.{refused, number_of, found, done, over}
+use borrow.Author.Tests.{eq-eqb, ne_eqb}
+use Rattle.octets.specs.Answer.{refused, number_of, over}
 use Rattle.octets.specs.declared.answer.Refusal.{Refusal}
-use Rattle.octets.specs.Refusals.{first_of, all_pass}
+use Rattle.octets.specs.Refusals.{first_of}
+use Rattle.std.proofs.lemmas.Bool.{cond-true as pick, cond-false as skip}
 use Rattle.octets.proofs.Found.{number_some}
-use Rattle.octets.specs.Width.{widthb}
-use Rattle.octets.proofs.WidthLaws.{width_cases, width_to}
-use Rattle.octets.proofs.Bools.{and_right, and_both, pick, skip}
 use Rattle.grid.specs.Layout.{SIZE, FLAGS}
 use Rattle.grid.specs.Pair.{next_pair}
 use Rattle.grid.specs.Screen.{Screen, with_cr, touched_rows}
 use Rattle.grid.specs.Record.{rows_of, head_of, screen_of, pair_of, stamp_of, read_state, state_bytes, front_bytes, Leaves, Moves}
-use Rattle.grid.specs.Facts.{HeadFits, Valid}
+use Rattle.grid.specs.Facts.{HeadFits}
 use Rattle.grid.specs.declared.head.Head.{Head}
+use Rattle.grid.specs.declared.pair.Pair.{Pair}
 use Rattle.grid.proofs.Validity.{head_fits}
 use Rattle.grid.proofs.Record.{left_bytes}
 use Rattle.grid.proofs.TouchedLaws.{touched_none}
-use Rattle.grid.proofs.RefusalLaws.{range_tested}
-use Rattle.editor.specs.Call.{Call, PrintBytes, rule, last_cr, lengths, own, in_range, apply, output, submitted, answer, cr_after, after_call, step, limited_ok}
+use Rattle.editor.specs.Call.{Call, PrintBytes, rule, output, lengths, own, last_cr, apply, submitted, answer, cr_after, after_call, step}
 use Rattle.editor.specs.Outcome.{change_tests, changing}
-use Rattle.line.specs.Line.{MAX-LOGICAL}
-use Rattle.editor.specs.Given.{Copied, Ends}
-use Rattle.editor.proofs.KeptCall.{apply_facts, limit_most}
+use Rattle.editor.proofs.KeptCall.{apply_facts}
 use Rattle.editor.proofs.Refusals.{going}
 use Rattle.calls.specs.Answers.{Answers}
-use Rattle.calls.specs.Parts.{change_found, changed_from, moved_from, Worked}
-use Rattle.calls.proofs.RefusalLaws.{tests_found}
+use Rattle.calls.specs.Parts.{change_found, changed_from, moved_from, Tested, Plain, Prints}
+use Rattle.calls.proofs.RefusalLaws.{own_none, tests_found}
 
--- the head that a call's work hands on, on a valid record and with arguments in range
-pub kept_fits : (c : Call) (l : List ℕ) (h : Head) → in_range c (screen_of l) ≡ true → Valid l → h ≡ (apply c (screen_of l)).head → HeadFits h
-kept_fits c l h e v is = subst HeadFits (sym is) (head_fits _ (apply_facts c (screen_of l) e v.screen).head)
-
--- of the prints that take all bytes
-pub printed_fits : (bs l m : List ℕ) (h : Head) → Valid l → Leaves (apply (PrintBytes bs) (screen_of l)) l m h → HeadFits h
-unfolding in_range own rule all_pass
-printed_fits bs l m h v left = kept_fits (PrintBytes bs) l h refl v left.head
-
-module _ (c : Call) (l : List ℕ) (o : ℕ) (io : length l ≡ SIZE → o ≡ first_of (own c (screen_of l))) (k : ℕ) (is : k ≡ change_found (lengths c) o l) where
-  first_is : k ≡ first_of (change_tests c l)
-  first_is = is ∙ tests_found c l o io
-
-  pub outcome_refused : (e : Refusal) → number_of e ≡ k → changing c l ≡ record { number = refused (number_of e); rec = l; out = output c }
+module _ (c : Call) (long : Bool) (o : ℕ) (l : List ℕ) (t : Tested c long o l) where
+  -- e is what refuses it
+  pub outcome_refused : (e : Refusal) → number_of e ≡ change_found long o l → changing c l ≡ record { number = refused (number_of e); rec = l; out = output c }
   unfolding changing
-  outcome_refused e ek =
+  outcome_refused e is =
       let first : ℕ = first_of (change_tests c l) in
-      let some : first ≢ 0 = λ q. number_some e (ek ∙ first_is ∙ q) in
-      skip (eqb first 0) _ _ (ne_eqb first 0 some)
-      ∙ ap (λ (n : ℕ). record { number = refused n; rec = l; out = output c }) (sym (ek ∙ first_is))
+      let k = is ∙ tests_found c long o l t in
+      skip (eqb first 0) _ _ (ne_eqb first 0 (λ q. number_some e (k ∙ q)))
+      ∙ ap (λ (n : ℕ). record { number = refused n; rec = l; out = output c }) (sym k)
 
-  none : 0 ≡ k → first_of (change_tests c l) ≡ 0
-  none zero = sym (zero ∙ first_is)
+  pub call_refused : (e : Refusal) → number_of e ≡ change_found long o l → Answers (changing c l) (refused (number_of e)) l
+  call_refused e is = rw (outcome_refused e is) (record { number = refl; left = refl })
 
-  pub outcome_done : 0 ≡ k
-      → changing c l ≡ record { number = answer c (screen_of l); rec = state_bytes (step c (read_state l)); out = over (submitted c (screen_of l)) (output c) }
-  unfolding changing
-  outcome_done zero = pick (eqb (first_of (change_tests c l)) 0) _ _ (eq-eqb _ 0 (none zero))
+  module _ (zero : 0 ≡ change_found long o l) where
+    none : first_of (change_tests c l) ≡ 0
+    none = sym (zero ∙ tests_found c long o l t)
 
-  pub call_refused : (e : Refusal) (n : List ℕ) → number_of e ≡ k → n ≡ l → Answers (changing c l) (refused (number_of e)) n
-  call_refused e n ek kept = rw (outcome_refused e ek) (record { number = refl; left = kept })
+    pub outcome_done : changing c l ≡ record { number = answer c (screen_of l); rec = state_bytes (step c (read_state l)); out = over (submitted c (screen_of l)) (output c) }
+    unfolding changing
+    outcome_done = pick (eqb (first_of (change_tests c l)) 0) _ _ (eq-eqb _ 0 none)
 
-  -- an accepted call: the state that it leaves, from its rows and its head
-  module _ (zero : 0 ≡ k) where
-    state_left : (h : Head) (m n : List ℕ) (touched : ℕ) → rows_of m ≡ (apply c (screen_of l)).rows → length m ≡ SIZE → h ≡ (apply c (screen_of l)).head
-        → touched ≡ touched_rows (rows_of l) (apply c (screen_of l)).rows
-        → n ≡ front_bytes (with_cr h (cr_after c (screen_of l))) (record { pair = next_pair (pair_of l); touched = touched }) ++ drop FLAGS m
+    -- the state that it leaves, from the rows of m and the head h
+    state_left : (h : Head) (m n : List ℕ) (p : Pair) (touched : ℕ) → h ≡ (apply c (screen_of l)).head → rows_of m ≡ (apply c (screen_of l)).rows → length m ≡ SIZE
+        → p ≡ next_pair (pair_of l) → touched ≡ touched_rows (rows_of l) (apply c (screen_of l)).rows
+        → n ≡ front_bytes (with_cr h (cr_after c (screen_of l))) (record { pair = p; touched = touched }) ++ drop FLAGS m
         → n ≡ state_bytes (step c (read_state l))
     unfolding step after_call read_state stamp_of
-    state_left h m n touched rows size head et e =
-        left_bytes m n (with_cr h (cr_after c (screen_of l))) (apply c (screen_of l)).rows (record { pair = next_pair (pair_of l); touched = touched }) size rows e
-        ∙ ap₂ (λ (g : Head) (u : ℕ). state_bytes (record { screen = record { head = with_cr g (cr_after c (screen_of l)); rows = (apply c (screen_of l)).rows }; stamp = record { pair = next_pair (pair_of l); touched = u } })) head et
+    state_left h m n p touched head rows size next et e =
+        left_bytes m n (with_cr h (cr_after c (screen_of l))) (apply c (screen_of l)).rows (record { pair = p; touched = touched }) size rows e ∙ rw (head, next, et) refl
 
-    -- a call that changes rows: its work leaves them in m
-    pub rows_state : (h : Head) (m n : List ℕ) → Ends (apply c (screen_of l)) m h → n ≡ changed_from l (with_cr h (cr_after c (screen_of l))) m
-        → n ≡ state_bytes (step c (read_state l))
-    unfolding changed_from
-    rows_state h m n ends e =
-        state_left h m n (touched_rows (rows_of l) (rows_of m)) ends.rows ends.size ends.head (ap (touched_rows (rows_of l)) ends.rows) e
+    -- work was lent the record k, to change too, and the screen s, to read from; it hands the head h on
+    module _ (k : List ℕ) (s : Screen) (h : Head) (same : k ≡ l) (shows : s ≡ screen_of k) where
+      its_screen : s ≡ screen_of l
+      its_screen = shows ∙ ap screen_of same
 
-    pub rows_done : (h : Head) (m n : List ℕ) (v : ℕ) → v ≡ answer c (screen_of l) → Ends (apply c (screen_of l)) m h
-        → n ≡ changed_from l (with_cr h (cr_after c (screen_of l))) m → Answers (changing c l) v n
-    rows_done h m n v ev ends e = rw (outcome_done zero) (record { number = ev; left = rows_state h m n ends e })
+      pub head_kept : h ≡ (apply c s).head → HeadFits h
+      head_kept is =
+          let f = going c l none in
+          subst HeadFits (sym (is ∙ ap (λ (x : Screen). (apply c x).head) its_screen)) (head_fits _ (apply_facts c (screen_of l) f.is_in_range f.start.valid.screen).head)
 
-    -- a call that moves the cursor or sets a mode
-    pub head_done : (h : Head) (n : List ℕ) (v : ℕ) → v ≡ answer c (screen_of l) → Moves (apply c (screen_of l)) l h
-        → n ≡ moved_from (with_cr h (cr_after c (screen_of l))) l → Answers (changing c l) v n
-    unfolding moved_from
-    head_done h n v ev moves e =
-        let f = going c l (none zero) in
-        rw (outcome_done zero)
-        (record {
-          number = ev;
-          left =
-              state_left h l n 0 (sym moves.rows) f.start.size moves.head (sym (ap (touched_rows (rows_of l)) moves.rows ∙ touched_none (rows_of l))) e;
-        })
+      -- n is what the end of the call leaves, with the pair p and the bit cr
+      module _ (n : List ℕ) (p : Pair) (cr : ℕ) (next : p ≡ next_pair (pair_of l)) (bit : cr_after c (screen_of l) ≡ cr) where
+        -- work changed rows, and left m
+        pub rows_state : (m : List ℕ) → Leaves (apply c s) k m h → n ≡ changed_from p k (with_cr h cr) m → n ≡ state_bytes (step c (read_state l))
+        unfolding changed_from
+        rows_state m left e =
+            let f : Leaves (apply c (screen_of l)) k m h = rw (← its_screen) left in
+            let touched = ap (touched_rows (rows_of l)) f.becomes.rows in
+            state_left h m n p (touched_rows (rows_of l) (rows_of m)) f.head f.becomes.rows f.becomes.size next touched (rw (bit, ← same) e)
 
--- ---- a call that has no text and answers 0, and that clears the bit: own' is what its own refusals find
+        module _ (v : ℕ) (ev : v ≡ answer c (screen_of l)) where
+          pub rows_done : (m : List ℕ) → Leaves (apply c s) k m h → n ≡ changed_from p k (with_cr h cr) m → Answers (changing c l) v n
+          rows_done m left e = rw outcome_done (record { number = ev; left = rows_state m left e })
 
-module _ (c : Call) (l n : List ℕ) (own' r : Result Unit Refusal) (long : lengths c ≡ true) (io : found own' ≡ first_of (own c (screen_of l)))
-    (quiet : answer c (screen_of l) ≡ 0) (clears : cr_after c (screen_of l) ≡ 0) (is : found r ≡ change_found true (found own') l)
-    (kept : OnErr r (n ≡ l)) where
-  pub moved_answers : OnOk r ((h : Head) × ((p : Bor (List ℕ)) × Moves (apply c (screen_of p.now)) p.now h × (p.now ≡ l)) × (n ≡ moved_from (with_cr h 0) l))
-      → Answers (changing c l) (done r) n
-  moved_answers ok = go r is kept ok
-    where
-      go : (r : Result Unit Refusal) → found r ≡ change_found true (found own') l → OnErr r (n ≡ l)
-          → OnOk r ((h : Head) × ((p : Bor (List ℕ)) × Moves (apply c (screen_of p.now)) p.now h × (p.now ≡ l)) × (n ≡ moved_from (with_cr h 0) l))
-          → Answers (changing c l) (done r) n
-      go (Ok x) z k (h, (p, m, at), e) =
-          head_done c l (found own') (λ (q : length l ≡ SIZE). io) 0 (z ∙ ap (λ (b : Bool). change_found b (found own') l) (sym long)) refl h n 0 (sym quiet)
-          (subst (λ (x : List ℕ). Moves (apply c (screen_of x)) x h) at m)
-          (e ∙ ap (λ (v : ℕ). moved_from (with_cr h v) l) (sym clears))
-      go (Err x) z k o =
-          call_refused c l (found own') (λ (q : length l ≡ SIZE). io) (number_of x) (z ∙ ap (λ (b : Bool). change_found b (found own') l) (sym long)) x n refl k
+          -- work changed none
+          head_done : Moves (apply c s) s h → n ≡ moved_from p (with_cr h cr) k → Answers (changing c l) v n
+          unfolding moved_from
+          head_done moves e =
+              let f : Moves (apply c (screen_of l)) (screen_of l) h = rw (← its_screen) moves in
+              let touched = sym (ap (touched_rows (rows_of l)) f.rows ∙ touched_none (rows_of l)) in
+              rw outcome_done
+              (record { number = ev; left = state_left h l n p 0 f.head (sym f.rows) (going c l none).start.size next touched (rw (bit, ← same) e) })
 
-  -- the work f leaves what the rule says
-  pub changed_answers : {F : Type 0} (g : Once F (MutBor (List ℕ) × (Bor (List ℕ) × Unit {0})) (Head × (MutBor (List ℕ) × Unit {0}))) (f : F)
-      → ((h : Head) (m : List ℕ) → Worked g f l h m → Ends (apply c (screen_of l)) m h)
-      → OnOk r ((h : Head) × (m : List ℕ) × Worked g f l h m × (n ≡ changed_from l (with_cr h 0) m)) → Answers (changing c l) (done r) n
-  changed_answers g f does ok = go r is kept ok
-    where
-      go : (r : Result Unit Refusal) → found r ≡ change_found true (found own') l → OnErr r (n ≡ l)
-          → OnOk r ((h : Head) × (m : List ℕ) × Worked g f l h m × (n ≡ changed_from l (with_cr h 0) m)) → Answers (changing c l) (done r) n
-      go (Ok x) z k (h, m, w, e) =
-          rows_done c l (found own') (λ (q : length l ≡ SIZE). io) 0 (z ∙ ap (λ (b : Bool). change_found b (found own') l) (sym long)) refl h m n 0 (sym quiet)
-          (does h m w) (e ∙ ap (λ (v : ℕ). changed_from l (with_cr h v) m) (sym clears))
-      go (Err x) z k o =
-          call_refused c l (found own') (λ (q : length l ≡ SIZE). io) (number_of x) (z ∙ ap (λ (b : Bool). change_found b (found own') l) (sym long)) x n refl k
+-- ---- `moved` and `changed`: a call that answers 0 and lends nothing beside the record
 
--- ---- the prints that take all bytes, bs; the checked one's own refusal is known of a slice of a record's length alone
+module _ (c : Call) (o cr : ℕ) (l : List ℕ) (plain : Plain c o cr l) (zero : 0 ≡ change_found true o l) (k : List ℕ) (s : Screen) (h : Head) (same : k ≡ l)
+    (shows : s ≡ screen_of k) (n : List ℕ) (p : Pair) (next : p ≡ next_pair (pair_of l)) where
+  pub changed_done : (m : List ℕ) → Leaves (apply c s) k m h → n ≡ changed_from p k (with_cr h cr) m → Answers (changing c l) 0 n
+  changed_done = rows_done c true o l plain.tested zero k s h same shows n p cr next plain.bit 0 (sym plain.answer)
 
-module _ (c : Call) (bs l n : List ℕ) (own' r : Result Unit Refusal) (long : lengths c ≡ true)
-    (io : length l ≡ SIZE → found own' ≡ first_of (own c (screen_of l))) (quiet : answer c (screen_of l) ≡ 0)
-    (prints : apply c (screen_of l) ≡ apply (PrintBytes bs) (screen_of l)) (bit : cr_after c (screen_of l) ≡ last_cr (head_of l).cr bs)
-    (is : found r ≡ change_found true (found own') l) (kept : OnErr r (n ≡ l)) where
-  pub printed_answers : OnOk r ((h : Head) × (m : List ℕ) × Leaves (apply (PrintBytes bs) (screen_of l)) l m h
-      × (n ≡ changed_from l (with_cr h (last_cr (head_of l).cr bs)) m)) → Answers (changing c l) (done r) n
-  printed_answers ok = go r is kept ok
-    where
-      go : (r : Result Unit Refusal) → found r ≡ change_found true (found own') l → OnErr r (n ≡ l)
-          → OnOk r ((h : Head) × (m : List ℕ) × Leaves (apply (PrintBytes bs) (screen_of l)) l m h × (n ≡ changed_from l (with_cr h (last_cr (head_of l).cr bs)) m))
-          → Answers (changing c l) (done r) n
-      go (Ok x) z k (h, m, left, e) =
-          rows_done c l (found own') io 0 (z ∙ ap (λ (b : Bool). change_found b (found own') l) (sym long)) refl h m n 0 (sym quiet)
-          (rw prints (record { size = left.becomes.size; rows = left.becomes.rows; head = left.head }))
-          (e ∙ ap (λ (v : ℕ). changed_from l (with_cr h v) m) (sym bit))
-      go (Err x) z k o = call_refused c l (found own') io (number_of x) (z ∙ ap (λ (b : Bool). change_found b (found own') l) (sym long)) x n refl k
+  pub moved_done : Moves (apply c s) s h → n ≡ moved_from p (with_cr h cr) k → Answers (changing c l) 0 n
+  moved_done = head_done c true o l plain.tested zero k s h same shows n p cr next plain.bit 0 (sym plain.answer)
 
--- what a work leaves that was lent k, with a copy, old, of it
-module _ (c : Call) (l m old k n : List ℕ) (h : Head) (lent : k ≡ l) (copy : old ≡ l) (leaves : n ≡ m) where
-  pub worked_ends : Leaves (apply c (screen_of old)) k n h → Ends (apply c (screen_of l)) m h
-  worked_ends left =
-      let s : apply c (screen_of old) ≡ apply c (screen_of l) = ap (λ (x : List ℕ). apply c (screen_of x)) copy in
-      record {
-        size = ap length (sym leaves) ∙ left.becomes.size;
-        rows = ap rows_of (sym leaves) ∙ left.becomes.rows ∙ ap (λ (x : Screen). x.rows) s;
-        head = left.head ∙ ap (λ (x : Screen). x.head) s;
-      }
+-- ---- `printed`: the bytes bs were printed
 
-  pub ended_ends : Ends (apply c (screen_of old)) n h → Ends (apply c (screen_of l)) m h
-  ended_ends ends =
-      let s : apply c (screen_of old) ≡ apply c (screen_of l) = ap (λ (x : List ℕ). apply c (screen_of x)) copy in
-      record {
-        size = ap length (sym leaves) ∙ ends.size;
-        rows = ap rows_of (sym leaves) ∙ ends.rows ∙ ap (λ (x : Screen). x.rows) s;
-        head = ends.head ∙ ap (λ (x : Screen). x.head) s;
-      }
+module _ (bs : List ℕ) (o : ℕ) (l : List ℕ) (zero : 0 ≡ change_found true o l) (k : List ℕ) (s : Screen) (h : Head) (same : k ≡ l)
+    (shows : s ≡ screen_of k) where
+  pub printed_fits : h ≡ (apply (PrintBytes bs) s).head → HeadFits h
+  unfolding lengths own rule first_of
+  printed_fits = head_kept (PrintBytes bs) true o l (record { lengths = refl; own = λ q. own_none true o l zero }) zero k s h same shows
 
--- the head that such a work hands on
-pub ends_fits : (c : Call) (l m : List ℕ) (h : Head) → in_range c (screen_of l) ≡ true → Valid l → Ends (apply c (screen_of l)) m h → HeadFits h
-ends_fits c l m h e v ends = kept_fits c l h e v ends.head
-
--- ---- arguments that are in range: o is what the test of them has found
-
-pub tested_range : (ok : Bool) (o : ℕ) → o ≡ 0 → o ≡ first_of ((3, ok) ∷ []) → ok && true ≡ true
-tested_range ok o none is = and_both ok true (range_tested ok (sym none ∙ is)) refl
-
-pub byte_most : (v o : ℕ) → o ≡ first_of ((3, leb v 255) ∷ []) → o ≡ 0 → v ≤ 255
-byte_most v o is none = leb-true v 255 (range_tested (leb v 255) (sym none ∙ is))
-
-pub switch_most : (v o : ℕ) → o ≡ first_of ((3, leb v 1) ∷ []) → o ≡ 0 → v ≤ 255
-switch_most v o is none = let h = leb-true v 1 (range_tested (leb v 1) (sym none ∙ is)) in omega (arith, h)
-
--- t is what `width_ok` has answered
-pub width_own : (w : ℕ) (t : Bool) (o : ℕ) → t ≡ widthb w → o ≡ first_of ((3, t) ∷ []) → o ≡ first_of ((3, widthb w) ∷ [])
-width_own w t o it is = is ∙ ap (λ (b : Bool). first_of ((3, b) ∷ [])) it
-
-pub width_most : (w : ℕ) (t : Bool) (o : ℕ) → t ≡ widthb w → o ≡ first_of ((3, t) ∷ []) → o ≡ 0 → w ≤ 80
-width_most w t o it is none = width_to w (width_cases w (range_tested (widthb w) (sym none ∙ width_own w t o it is)))
-
-limit_byte : (ch limit : ℕ) → limited_ok ch limit ≡ true → ch ≤ 255
-unfolding limited_ok
-limit_byte ch limit e = leb-true ch 255 (and_right (leb 1 limit && leb limit MAX-LOGICAL) _ e)
-
-pub limited_most : (ch limit o : ℕ) → o ≡ first_of ((3, limited_ok ch limit) ∷ []) → o ≡ 0 → (ch ≤ 255) × (limit ≤ MAX-LOGICAL)
-limited_most ch limit o is none =
-    let e : limited_ok ch limit ≡ true = range_tested (limited_ok ch limit) (sym none ∙ is) in
-    (limit_byte ch limit e, limit_most ch limit e)
-
-pub copied_here : (k old : List ℕ) → Valid old → k ≡ old → Copied k old
-copied_here k old v e = record { copy = e; valid = v }
+  pub printed_done : (m n : List ℕ) (p : Pair) → Leaves (apply (PrintBytes bs) s) k m h → p ≡ next_pair (pair_of l)
+      → n ≡ changed_from p k (with_cr h (last_cr (head_of k).cr bs)) m → (c : Call) → Prints c o bs l → Answers (changing c l) 0 n
+  printed_done m n p left next e c prints = changed_done c o _ l prints.plain zero k s h same shows n p next m (rw (prints.same s) left) (rw (← same) e)

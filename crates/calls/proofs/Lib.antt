@@ -1,7 +1,7 @@
 -- The laws of the calls on a lent record.
 pub mod RefusalLaws
-pub mod WaitingLaws
 pub mod FinishLaws
 pub mod Changing
-pub mod FreshLaws
 pub mod LinesLaws
+pub mod WaitingLaws
+pub mod FreshLaws

@@ -1,11 +1,10 @@
-// The end of every changing call: the front of its record is written anew, with the bit of document 02, (l), as the call leaves it.
+// The end of every changing call: the front of its record is written anew, with the bit of document 02, (l), as the call leaves it. next is the pair that the call
+// leaves.
 ghost use Rattle.std.specs.Prelude.{◌≡◌};
-ghost use Rattle.grid.specs.Pair.{next_pair};
 ghost use Rattle.grid.specs.Screen.{with_cr};
-ghost use Rattle.grid.specs.Record.{head_of, pair_of, serial_of};
+ghost use Rattle.grid.specs.Record.{head_of};
 ghost use Rattle.grid.specs.Facts.{HeadFits};
 ghost use Rattle.editor.specs.Call.{last_cr};
-ghost use Rattle.editor.specs.Outcome.{LAST-SERIAL};
 ghost use Rattle.calls.specs.Parts.{changed_from, moved_from};
 
 use editor::print;
@@ -15,58 +14,45 @@ use grid::layout::Record;
 use grid::pair::Pair;
 use grid::touched::changed_rows;
 
-// The next serial of the same sitting.
-#[tactic(auto, using(crate::proofs::FinishLaws::next_fits, crate::proofs::FinishLaws::next_read))]
-fn next_pair(rec: &Record) -> Pair
-    requires { serial_of rec.now ≡ LAST-SERIAL → ⊥ }
-    ensures { result ≡ next_pair (pair_of rec.now) }
-{
-    let was = head::read_pair(rec);
-    Pair {
-        serial: was.serial + 1,
-        ..was
-    }
-}
-
-// Writes the head h, the next serial and the rows that differ from the record's copy old.
-#[tactic(auto, using(crate::proofs::FinishLaws::finished))]
-fn write_changed(rec: &mut Record, old: &Record, h: Head)
-    requires { HeadFits h × (serial_of old.now ≡ LAST-SERIAL → ⊥) }
-    ensures { rec.new ≡ changed_from old.now h rec.old }
+// Writes the head h, the pair and the rows that differ from the record's copy old.
+#[tactic(auto, unfolding(crate::specs::Parts::changed_from))]
+fn write_changed(rec: &mut Record, old: &Record, h: Head, next: Pair)
+    requires { HeadFits h }
+    ensures { rec.new ≡ changed_from next old.now h rec.old }
 {
     let stamp = Stamp {
-        pair: next_pair(old),
+        pair: next,
         touched: changed_rows(old, rec),
     };
     head::write_front(rec, h, stamp);
 }
 
 // The end of a call that may have changed rows, where old is the record's copy; it clears the bit.
-#[tactic(auto, using(crate::proofs::FinishLaws::bit_fits, crate::proofs::FinishLaws::finished_bit))]
-pub fn finish(rec: &mut Record, old: &Record, h: Head)
-    requires { HeadFits h × (serial_of old.now ≡ LAST-SERIAL → ⊥) }
-    ensures { rec.new ≡ changed_from old.now (with_cr h 0) rec.old }
+#[tactic(auto, using(crate::proofs::FinishLaws::bit_fits))]
+pub fn finish(rec: &mut Record, old: &Record, h: Head, next: Pair)
+    requires { HeadFits h }
+    ensures { rec.new ≡ changed_from next old.now (with_cr h 0) rec.old }
 {
-    write_changed(rec, old, h.with_cr(0));
+    write_changed(rec, old, h.with_cr(0), next);
 }
 
 // The end of a print of bytes, whose last one decides about the bit.
-#[tactic(auto, using(crate::proofs::FinishLaws::bit_fits, crate::proofs::FinishLaws::finished_bit))]
-pub fn finish_print(rec: &mut Record, old: &Record, h: Head, bytes: &[u8])
-    requires { HeadFits h × (serial_of old.now ≡ LAST-SERIAL → ⊥) }
-    ensures { rec.new ≡ changed_from old.now (with_cr h (last_cr (head_of old.now).cr bytes.now)) rec.old }
+#[tactic(auto, using(crate::proofs::FinishLaws::bit_fits))]
+pub fn finish_print(rec: &mut Record, old: &Record, h: Head, bytes: &[u8], next: Pair)
+    requires { HeadFits h }
+    ensures { rec.new ≡ changed_from next old.now (with_cr h (last_cr (head_of old.now).cr bytes.now)) rec.old }
 {
-    write_changed(rec, old, h.with_cr(print::cr_left(old, bytes)));
+    write_changed(rec, old, h.with_cr(print::cr_left(old, bytes)), next);
 }
 
 // The end of a call that changes no row: nothing is touched, and the bit is cleared.
-#[tactic(auto, using(crate::proofs::FinishLaws::bit_fits, crate::proofs::FinishLaws::finished_move))]
-pub fn finish_move(rec: &mut Record, h: Head)
-    requires { HeadFits h × (serial_of rec.old ≡ LAST-SERIAL → ⊥) }
-    ensures { rec.new ≡ moved_from (with_cr h 0) rec.old }
+#[tactic(auto, using(crate::proofs::FinishLaws::bit_fits), unfolding(crate::specs::Parts::moved_from))]
+pub fn finish_move(rec: &mut Record, h: Head, next: Pair)
+    requires { HeadFits h }
+    ensures { rec.new ≡ moved_from next (with_cr h 0) rec.old }
 {
     let stamp = Stamp {
-        pair: next_pair(rec),
+        pair: next,
         touched: 0,
     };
     head::write_front(rec, h.with_cr(0), stamp);

@@ -9,9 +9,7 @@ use octets::answer::Refusal;
 pub fn new_screen(rec: &mut [u8], width: u32, sitting: u32) -> Result<(), Refusal>
     ensures { Writes (creating width sitting rec.old) (done result) rec.new }
 {
-    let Some(rec) = rec.as_mut_array() else {
-        return Err(Refusal::WrongLength);
-    };
+    let rec = rec.as_mut_array().ok_or(Refusal::WrongLength)?;
     grid::fresh::new_screen(rec, width, sitting);
     Ok(())
 }

@@ -1,14 +1,13 @@
 // Document 01, "Motion, modes": the moves.
 ghost use Rattle.octets.specs.Answer.{done};
 ghost use Rattle.editor.specs.Call.{MoveLeft, MoveRight, MoveUp, MoveDown, Home, EndOfLine, SetCursor, apply};
-ghost use Rattle.grid.specs.Facts.{Valid};
-ghost use Rattle.grid.specs.Record.{screen_of, Moves};
+ghost use Rattle.grid.specs.Record.{Moves};
 ghost use Rattle.editor.specs.Outcome.{changing};
 ghost use Rattle.calls.specs.Answers.{Answers};
 
 use crate::change::moved;
 use grid::head::Head;
-use grid::layout::Record;
+use grid::screen::Screen;
 use moves::motion;
 use octets::answer::Refusal;
 
@@ -55,9 +54,8 @@ pub fn set_cursor(rec: &mut [u8], row: u32, col: u32) -> Result<(), Refusal>
     moved(
         rec,
         Ok(()),
-        |rec: &Record| -> Head
-            requires { Valid rec.now }
-            ensures { Moves (apply (SetCursor row col) (screen_of rec.now)) rec.now result }
-        { motion::set_cursor(rec, row, col) },
+        |s: &Screen| -> Head
+            ensures { Moves (apply (SetCursor row col) s.now) s.now result }
+        { motion::set_cursor(s, row, col) },
     )
 }

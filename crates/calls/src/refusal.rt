@@ -1,31 +1,34 @@
 // The refusals of changing calls, beside those that all calls on a record share.
-ghost use Rattle.std.specs.Prelude.{◌≡◌, [], ◌∷◌, length};
+ghost use Rattle.std.specs.Prelude.{◌≡◌, [], ◌∷◌, length, IfOk};
 ghost use Rattle.octets.specs.Answer.{found};
-ghost use Rattle.octets.specs.Refusals.{first_of, or_else};
+ghost use Rattle.octets.specs.Refusals.{first_of};
+ghost use Rattle.grid.specs.Facts.{Valid};
 ghost use Rattle.grid.specs.Layout.{SIZE};
-ghost use Rattle.grid.specs.Record.{screen_of};
+ghost use Rattle.grid.specs.Pair.{next_pair};
+ghost use Rattle.grid.specs.Record.{pair_of, screen_of};
 ghost use Rattle.editor.specs.Call.{PrintChecked, limited_ok, own};
-ghost use Rattle.editor.specs.Outcome.{serial_tests};
+ghost use Rattle.calls.specs.Parts.{change_found};
 
 use editor::print;
 use grid::head;
-use grid::layout::Record;
-use grid::refusal::in_range;
+use grid::pair::Pair;
+use grid::refusal::{in_range, record};
 use line::text::MAX_LOGICAL;
 use octets::answer::Refusal;
 
-const LAST_SERIAL: u32 = 4294967295;
-
-// Behind the record's refusals, own is what the call's own refusals find, and the last serial has no next.
-#[tactic(auto, using(crate::proofs::RefusalLaws::own_refused, crate::proofs::RefusalLaws::last_refused, crate::proofs::RefusalLaws::not_last))]
-pub(crate) fn late(rec: &Record, own: Result<(), Refusal>) -> Result<(), Refusal>
-    ensures { found result ≡ or_else (found own) (first_of (serial_tests rec.now)) }
+// The pair that a changing call will leave, unless it is refused: for the record's sake, by what its own refusals find, own, or by the last serial, which has no
+// next. lengths: every other lent slice has a length that is taken.
+#[tactic(auto, using(crate::proofs::RefusalLaws::record_refused, crate::proofs::RefusalLaws::own_refused, crate::proofs::RefusalLaws::last_refused, crate::proofs::RefusalLaws::not_refused), unfolding(grid::specs::Pair::next_pair))]
+pub(crate) fn accepted(rec: &[u8], lengths: bool, own: Result<(), Refusal>) -> Result<Pair, Refusal>
+    ensures refusal { found result ≡ change_found lengths (found own) rec.now }
+    ensures valid { IfOk result (λ _. Valid rec.now) }
+    ensures next { IfOk result (λ p. p ≡ next_pair (pair_of rec.now)) }
 {
+    let rec = record(rec, lengths)?;
     own?;
-    if head::read_pair(rec).serial == LAST_SERIAL {
-        return Err(Refusal::SpentSerial);
-    }
-    Ok(())
+    let was = head::read_pair(rec);
+    let serial = was.serial.checked_add(1).ok_or(Refusal::SpentSerial)?;
+    Ok(Pair { serial, ..was })
 }
 
 // The checked print's own refusal, of a slice that has a record's length.

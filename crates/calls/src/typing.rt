@@ -1,10 +1,10 @@
 // Document 01, "Typing and line keys": the keys that type and erase characters.
-ghost use Rattle.std.specs.Prelude.{◌≤◌};
+// Kept so: casts, for the reason in `modes`.
+ghost use Rattle.std.specs.Prelude.{◌≡◌, ◌≤◌};
 ghost use Rattle.octets.specs.Answer.{done};
-ghost use Rattle.grid.specs.Record.{screen_of, Leaves};
+ghost use Rattle.grid.specs.Record.{rows_of, Leaves};
 ghost use Rattle.line.specs.Line.{MAX-LOGICAL};
 ghost use Rattle.editor.specs.Call.{TypeChar, TypeLimited, Backspace, DeleteChar, EraseToEnd, apply};
-ghost use Rattle.editor.specs.Given.{Copied};
 ghost use Rattle.editor.specs.Outcome.{changing};
 ghost use Rattle.calls.specs.Answers.{Answers};
 
@@ -14,6 +14,7 @@ use editor::typing;
 use grid::head::Head;
 use grid::layout::Record;
 use grid::refusal::in_range;
+use grid::screen::Screen;
 use octets::answer::Refusal;
 
 pub fn type_char(rec: &mut [u8], ch: u32) -> Result<(), Refusal>
@@ -22,9 +23,9 @@ pub fn type_char(rec: &mut [u8], ch: u32) -> Result<(), Refusal>
     changed(
         rec,
         in_range(ch <= 255),
-        |rec: &mut Record, old: &Record| -> Head
-            requires { Copied rec.old old.now × (ch ≤ 255) }
-            ensures { Leaves (apply (TypeChar ch) (screen_of old.now)) rec.old rec.new result }
+        |rec: &mut Record, old: &Screen| -> Head
+            requires { (rows_of rec.old ≡ old.now.rows) × (ch ≤ 255) }
+            ensures { Leaves (apply (TypeChar ch) old.now) rec.old rec.new result }
         { typing::type_char(rec, old, ch as u8) },
     )
 }
@@ -36,9 +37,9 @@ pub fn type_limited(rec: &mut [u8], ch: u32, limit: u32) -> Result<(), Refusal>
     changed(
         rec,
         can_limit(ch, limit as usize),
-        |rec: &mut Record, old: &Record| -> Head
-            requires { Copied rec.old old.now × (ch ≤ 255) × (limit ≤ MAX-LOGICAL) }
-            ensures { Leaves (apply (TypeLimited ch limit) (screen_of old.now)) rec.old rec.new result }
+        |rec: &mut Record, old: &Screen| -> Head
+            requires { (rows_of rec.old ≡ old.now.rows) × (ch ≤ 255) × (limit ≤ MAX-LOGICAL) }
+            ensures { Leaves (apply (TypeLimited ch limit) old.now) rec.old rec.new result }
         { typing::type_limited(rec, old, ch as u8, limit as usize) },
     )
 }

@@ -30,6 +30,7 @@ const FACTOR: u64 = 257;
 const MODULUS: u64 = 2147483647;
 
 // A head's bytes, and what they say.
+// Kept so: both, since the digest is made of the bytes.
 #[derive(Clone, Copy)]
 pub struct Head {
     bytes: [u8; HEAD],
@@ -58,6 +59,7 @@ impl Head {
 }
 
 // The digest of what gave h and then these bytes.
+// Kept so: a cast, since no `From` leads from u64 to u32, and what is below MODULUS fits.
 fn digest_after(h: u32, bytes: &[u8]) -> u32
     requires { h < MODULUS }
     ensures { result < MODULUS }

@@ -1,21 +1,19 @@
--- `calls::change::moved` meets its contract.
-use Rattle.std.proofs.Common.{rules, ◌≡◌}
-use Rattle.octets.specs.Answer.{found}
-use Rattle.grid.specs.Facts.{Valid}
-use Rattle.calls.proofs.RefusalLaws.{own_none, serial_same, valid_same}
+-- `calls::change::moved` meets its contract. Of c.requires, .1.0 is `plain`, .1.1.0 `may` and .1.1.1 `does`.
+use Rattle.std.proofs.Common.{rules}
+use Rattle.calls.proofs.RefusalLaws.{own_none}
+use Rattle.calls.proofs.Changing.{call_refused, head_kept, moved_done}
 use Rattle.calls.proofs.change.moved.Goals as goal
 
+pub returns-in_err-next : goal.returns-in_err-next
+returns-in_err-next g c = search (rules, call_refused)
+
 pub work-h-requires : goal.work-h-requires
-work-h-requires g c =
-    let n : found c.args.own ≡ 0 = search (rules, own_none) in
-    let v : Valid c.unwrap-rec.result.now = search (rules, valid_same) in
-    c.requires.may _ n v
+work-h-requires g c = c.requires.1.1.0 _ (own_none _ _ _ c.in_ok-next.ensures.refusal)
 
 pub finish_move-requires : goal.finish_move-requires
-finish_move-requires g c =
-    let n : found c.args.own ≡ 0 = search (rules, own_none) in
-    let v : Valid c.unwrap-rec.result.now = search (rules, valid_same) in
-    (c.requires.fits _ _ n v c.work-h.ensures, search (rules, serial_same))
+finish_move-requires g c = head_kept _ _ _ _ c.requires.1.0.tested c.in_ok-next.ensures.refusal _ _ _ (search rules) c.of.ensures (c.requires.1.1.1 _ _ c.work-h.ensures).head
 
-pub returns-clause-done : goal.returns-clause-done
-returns-clause-done g c = (c.work-h.result, (_, c.work-h.ensures, search rules), search rules)
+pub returns : goal.returns
+returns g c =
+    moved_done _ _ _ _ c.requires.1.0 c.in_ok-next.ensures.refusal _ _ _ (search rules) c.of.ensures _ _ c.in_ok-next.ensures.next
+    (c.requires.1.1.1 _ _ c.work-h.ensures) c.finish_move.ensures

@@ -1,16 +1,13 @@
 -- `calls::print::printed` meets its contract.
-use Rattle.std.proofs.Common.{rules, ◌≡◌}
-use Rattle.grid.specs.Facts.{Valid}
-use Rattle.calls.proofs.RefusalLaws.{serial_same, valid_same}
-use Rattle.calls.proofs.Changing.{printed_fits}
+use Rattle.std.proofs.Common.{rules}
+use Rattle.calls.proofs.Changing.{call_refused, printed_fits, printed_done}
 use Rattle.calls.proofs.print.printed.Goals as goal
 
-pub finish_print-requires : goal.finish_print-requires
-finish_print-requires c =
-    let v : Valid c.unwrap-rec.result.now = search (rules, valid_same) in
-    (printed_fits _ _ _ _ v c.print_bytes-h.ensures, search (rules, serial_same))
+pub returns-in_err-next : goal.returns-in_err-next
+returns-in_err-next c = λ call prints. search (rules, call_refused)
 
-pub returns-clause-done : goal.returns-clause-done
-returns-clause-done c =
-    let e : c.unwrap-rec.result.now ≡ c.args.rec.now = search rules in
-    (c.print_bytes-h.result, c.print_bytes-h.new.rec, rw (← e) c.print_bytes-h.ensures, rw (← e) c.finish_print.ensures)
+pub finish_print-requires : goal.finish_print-requires
+finish_print-requires c = printed_fits _ _ _ c.in_ok-next.ensures.refusal _ _ _ (search rules) c.of.ensures c.print_bytes-h.ensures.head
+
+pub returns : goal.returns
+returns c = printed_done _ _ _ c.in_ok-next.ensures.refusal _ _ _ (search rules) c.of.ensures _ _ _ c.print_bytes-h.ensures c.in_ok-next.ensures.next c.finish_print.ensures
