@@ -13,21 +13,15 @@ use crate::refusal::can_limit;
 use editor::typing;
 use grid::head::Head;
 use grid::layout::Record;
-use grid::refusal::in_range;
 use grid::screen::Screen;
+use line::text::MAX_LOGICAL;
 use octets::answer::Refusal;
 
+#[tactic(auto, using(editor::proofs::LimitedTyping::at_255))]
 pub fn type_char(rec: &mut [u8], ch: u32) -> Result<(), Refusal>
     ensures { Answers (changing (TypeChar ch) rec.old) (done result) rec.new }
 {
-    changed(
-        rec,
-        in_range(ch <= 255),
-        |rec: &mut Record, old: &Screen| -> Head
-            requires { (rows_of rec.old ≡ old.now.rows) × (ch ≤ 255) }
-            ensures { Leaves (apply (TypeChar ch) old.now) rec.old rec.new result }
-        { typing::type_char(rec, old, ch as u8) },
-    )
+    type_limited(rec, ch, MAX_LOGICAL as u32)
 }
 
 // Document 02, (g): typing with a limit.

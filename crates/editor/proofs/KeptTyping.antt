@@ -14,7 +14,7 @@ use Rattle.grid.specs.Facts.{ScreenFacts}
 use Rattle.octets.proofs.Bools.{cases, either, every_both, every_cons, every_take, every_drop, every_set}
 use Rattle.grid.proofs.Keep.{edited_flag}
 use Rattle.line.specs.Line.{MAX-LOGICAL, start_of, content, index}
-use Rattle.editor.specs.Typing.{type_at, type_char, type_within, type_limited, delete_char, backspace, erase_to_end}
+use Rattle.editor.specs.Typing.{type_char, type_within, type_limited, delete_char, backspace, erase_to_end}
 use Rattle.editor.specs.Lines.{escape_line, ctrl_enter, take_logical_line, break_line, too_long}
 use Rattle.editor.specs.Tab
 use Rattle.editor.specs.Tab.{type_spaces, next_stop, tab}
@@ -77,7 +77,7 @@ module _ {P : Screen → Type 0} (k : Kept P) where
 
   -- which at MAX-LOGICAL is typing
   pub type_char_kept : (s : Screen) (ch : ℕ) → P s → P (type_char s ch)
-  unfolding type_char type_at type_limited type_within
+  unfolding type_char
   type_char_kept s ch p = type_limited_kept MAX-LOGICAL s ch (omega arith) p
 
   type_spaces_kept : (n : ℕ) (s : Screen) → P s → P (type_spaces n s)

@@ -25,7 +25,7 @@ use Rattle.line.specs.Splice.{splice}
 use Rattle.values.specs.declared.cursor.Cursor.{Cursor}
 use Rattle.line.proofs.KeptLine.{TextFacts, content_text}
 use Rattle.line.proofs.SplicedLine.{spliced_content}
-use Rattle.editor.specs.Typing.{type_at, type_char, type_within, type_limited}
+use Rattle.editor.specs.Typing.{type_char, type_within, type_limited}
 use Rattle.editor.specs.Call.{limited_ok, rule, output, lengths, own, in_range, apply, submitted, answer, cr_left, cr_after, after_call, step}
 use Rattle.editor.specs.Call.Call.{TypeChar, TypeLimited}
 use Rattle.editor.specs.Outcome.{change_tests, changing}
@@ -74,12 +74,12 @@ module _ (limit : ℕ) (s : Screen) (ch : ℕ) where
 
   -- a character that stands inside is typed over, whatever the limit
   over : s.head.insert ≡ 0 → index s < length (content s) → type_limited limit s ch ≡ type_char s ch
-  unfolding type_limited type_within type_char type_at
+  unfolding type_limited type_within type_char
   over off inside = rw (ne_eqb s.head.insert 1 (λ q. omega arith), lt-ltb (index s) (length (content s)) inside)
 
   -- and with room all is as without a limit
   roomy : limit ≤ MAX-LOGICAL → length (content s) < limit → type_limited limit s ch ≡ type_char s ch
-  unfolding type_limited type_within type_char type_at
+  unfolding type_limited type_within type_char
   roomy most short = rw (lt-leb limit (length (content s)) short, lt-leb MAX-LOGICAL (length (content s)) (omega arith))
 
   module _ (f : ScreenFacts s) (most : limit ≤ MAX-LOGICAL) where
@@ -194,11 +194,14 @@ module _ (ch limit : ℕ) (l : List ℕ) where
 
 -- ---- the promise
 
+pub at_255 : (ch : ℕ) (l : List ℕ) → changing (TypeLimited ch 255) l ≡ changing (TypeChar ch) l
+unfolding changing change_tests lengths own output submitted answer step after_call cr_after apply rule limited_ok type_char
+at_255 ch l = refl
+
 pub limited_typing : LimitedTyping
-unfolding changing change_tests lengths own output submitted answer step after_call cr_after apply rule limited_ok type_char type_at type_limited type_within
 limited_typing =
     record {
-      at_255 = λ ch l. refl;
+      at_255 = at_255;
       full = λ ch limit l b v e many way. left ch limit l b v e ∙ ap (λ (s : Screen). with_bit s 0) (still limit (screen_of l) ch many way);
       typed_over = λ ch limit l low high off inside. same_call ch limit l low high (over limit (screen_of l) ch off inside);
       with_room = λ ch limit l low high short. same_call ch limit l low high (roomy limit (screen_of l) ch high short);

@@ -16,15 +16,12 @@ type_within limit s cs i ch =
     else if full then s
     else splice s (cs ++ (ch ∷ [])) (i + 1)
 
--- the limit of every line
-unfoldable pub type_at : Screen → List ℕ → ℕ → ℕ → Screen
-type_at s cs i ch = type_within MAX-LOGICAL s cs i ch
-
 unfoldable pub type_limited : ℕ → Screen → ℕ → Screen
 type_limited limit s ch = if printable ch then type_within limit s (content s) (index s) ch else s
 
+-- with the limit of document 01
 unfoldable pub type_char : Screen → ℕ → Screen
-type_char s ch = if printable ch then type_at s (content s) (index s) ch else s
+type_char s ch = type_limited MAX-LOGICAL s ch
 
 unfoldable pub delete_char : Screen → Screen
 delete_char s =

@@ -90,7 +90,7 @@ fn type_within(rec: &mut Record, edited: &Edited, ch: u8, limit: usize) -> Head
     edited.spliced(rec, t.extended(ch))
 }
 
-#[tactic(auto, unfolding(crate::specs::Call::apply, crate::specs::Call::rule, crate::specs::Typing::type_char, crate::specs::Typing::type_at, crate::specs::Typing::type_limited))]
+#[tactic(auto, unfolding(crate::specs::Call::apply, crate::specs::Call::rule, crate::specs::Typing::type_char))]
 pub fn type_char(rec: &mut Record, old: &Screen, ch: u8) -> Head
     requires { rows_of rec.old ≡ old.now.rows }
     ensures { Leaves (apply (TypeChar ch) old.now) rec.old rec.new result }
