@@ -57,11 +57,11 @@ pub(crate) fn can_wait(few: bool, fits: bool) -> Result<(), Refusal>
     Ok(())
 }
 
-// The limited typing's own refusal.
+// Typing's own refusal, with a limit or without one of its own.
 #[tactic(auto, using(std::proofs::lemmas::Bool::Decides::nat_tests), unfolding(editor::specs::Call::limited_ok))]
 pub(crate) fn can_limit(ch: u32, limit: usize) -> Result<(), Refusal>
     ensures { found result ≡ first_of ((3, limited_ok ch limit) ∷ []) }
 {
-    let low = limit <= MAX_LOGICAL;
-    in_range(1 <= limit && low && ch <= 255)
+    let most = limit <= MAX_LOGICAL;
+    in_range(1 <= limit && most && ch <= 255)
 }

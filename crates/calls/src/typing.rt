@@ -1,5 +1,5 @@
 // Document 01, "Typing and line keys": the keys that type and erase characters.
-// Kept so: casts, for the reason in `modes`.
+// Kept so: casts, for the reason in `modes`, and of MAX_LOGICAL, which fits in a u32.
 ghost use Rattle.std.specs.Prelude.{◌≡◌, ◌≤◌};
 ghost use Rattle.octets.specs.Answer.{done};
 ghost use Rattle.grid.specs.Record.{rows_of, Leaves};

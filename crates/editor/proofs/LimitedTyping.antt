@@ -15,11 +15,12 @@ use Rattle.octets.specs.Test.{every, is_byte}
 use Rattle.std.proofs.lemmas.Bool.{cond-true as pick}
 use Rattle.octets.proofs.Bools.{and_left, cases}
 use Rattle.octets.proofs.Found.{is_accepted}
-use Rattle.grid.specs.Screen.{Screen, with_rows, with_bit, move_to, printable}
+use Rattle.grid.specs.Screen.{Screen, with_rows, with_bit, move_to, printable, touched_rows}
 use Rattle.grid.specs.Conditions.{ValidRecord}
 use Rattle.grid.specs.Facts.{ScreenFacts}
-use Rattle.grid.specs.Record.{screen_of, read_state}
+use Rattle.grid.specs.Record.{screen_of, touched_of, read_state}
 use Rattle.grid.proofs.Conditions.{conditions_record}
+use Rattle.grid.proofs.TouchedLaws.{touched_none}
 use Rattle.line.specs.Line.{MAX-LOGICAL, start_of, end_of, row_text, whole_rows, content, index, reach}
 use Rattle.line.specs.Splice.{splice}
 use Rattle.values.specs.declared.cursor.Cursor.{Cursor}
@@ -33,7 +34,7 @@ use Rattle.editor.specs.LimitedTyping.{LimitedTyping}
 use Rattle.editor.proofs.KeptTyping.{text_insert, text_set, text_add}
 use Rattle.editor.proofs.KeptCall.{limit_most}
 use Rattle.editor.proofs.Refusals.{change_none, going}
-use Rattle.editor.proofs.Lists.{change_refused, screen_left_is}
+use Rattle.editor.proofs.Lists.{change_refused, screen_left_is, touched_left_is}
 
 -- ---- on screens
 
@@ -174,6 +175,13 @@ module _ (ch limit : ℕ) (l : List ℕ) where
         → screen_of (changing (TypeLimited ch limit) l).rec ≡ with_bit (type_limited limit (screen_of l) ch) 0
     left e = screen_left_is (TypeLimited ch limit) l b v e ∙ after_typed ch limit (screen_of l)
 
+    touched : is_refusal (changing (TypeLimited ch limit) l).number ≡ false → type_limited limit (screen_of l) ch ≡ screen_of l
+        → touched_of (changing (TypeLimited ch limit) l).rec ≡ 0
+    touched e same =
+        touched_left_is (TypeLimited ch limit) l b v e
+        ∙ ap (λ (x : Screen). touched_rows (screen_of l).rows x.rows) (after_typed ch limit (screen_of l) ∙ ap (λ (x : Screen). with_bit x 0) same)
+        ∙ touched_none (screen_of l).rows
+
     most_taken : is_refusal (changing (TypeLimited ch limit) l).number ≡ false → limit ≤ MAX-LOGICAL
     unfolding in_range own rule all_pass
     most_taken e = limit_most ch limit (and_left _ true (going (TypeLimited ch limit) l (change_none (TypeLimited ch limit) l (is_accepted _ e))).is_in_range)
@@ -202,7 +210,9 @@ pub limited_typing : LimitedTyping
 limited_typing =
     record {
       at_255 = at_255;
-      full = λ ch limit l b v e many way. left ch limit l b v e ∙ ap (λ (s : Screen). with_bit s 0) (still limit (screen_of l) ch many way);
+      full = λ ch limit l b v e many way.
+          let same = still limit (screen_of l) ch many way in
+          (left ch limit l b v e ∙ ap (λ (s : Screen). with_bit s 0) same, touched ch limit l b v e same);
       typed_over = λ ch limit l low high off inside. same_call ch limit l low high (over limit (screen_of l) ch off inside);
       with_room = λ ch limit l low high short. same_call ch limit l low high (roomy limit (screen_of l) ch high short);
       cursor_tells = cursor_tells;

@@ -12,7 +12,7 @@ use Rattle.octets.specs.Answer.{is_refusal}
 use Rattle.grid.specs.Layout.{PAIR, MASKS, SERIALS}
 use Rattle.grid.specs.Screen.{Row, State, number, differing, touched_rows, new_state}
 use Rattle.grid.specs.Pair.{next_pair}
-use Rattle.grid.specs.Record.{pair_of, stamp_of, screen_of, read_state, state_bytes}
+use Rattle.grid.specs.Record.{pair_of, stamp_of, touched_of, screen_of, read_state, state_bytes}
 use Rattle.octets.specs.Test.{every, is_byte}
 use Rattle.grid.proofs.PairLaws.{pair_fits}
 use Rattle.grid.specs.Conditions.{ValidRecord}
@@ -110,6 +110,12 @@ pub screen_left_is : (c : Call) (l : List ℕ) → every is_byte l ≡ true → 
     → screen_of (changing c l).rec ≡ after_call c (screen_of l)
 unfolding step read_state
 screen_left_is c l b v e = let p = stepped c l b v e in ap screen_of p.left ∙ ap (λ (x : State). x.screen) (state_back _ p.facts)
+
+-- and the rows that differ
+pub touched_left_is : (c : Call) (l : List ℕ) → every is_byte l ≡ true → ValidRecord l → is_refusal (changing c l).number ≡ false
+    → touched_of (changing c l).rec ≡ touched_rows (screen_of l).rows (after_call c (screen_of l)).rows
+unfolding step read_state stamp_of
+touched_left_is c l b v e = let p = stepped c l b v e in ap touched_of p.left ∙ ap (λ (x : State). x.stamp.touched) (state_back _ p.facts)
 
 -- ---- accepted calls, from any state
 

@@ -19,9 +19,10 @@ use Rattle.grid.specs.declared.head.Head.{Head}
 use Rattle.std.proofs.lemmas.Bool.{cond-true as pick, cond-false as skip}
 use Rattle.octets.specs.Refusals.{all_pass}
 use Rattle.grid.proofs.ScreenLaws.{head_seen, rows_seen}
+use Rattle.line.specs.Line.{MAX-LOGICAL}
 use Rattle.editor.specs.Typing.{type_char}
 use Rattle.editor.specs.Tab.{same_cursor, type_spaces, next_stop, tab, tabbed}
-use Rattle.editor.specs.Call.{TypeChar, Tab, in_range, rule, apply, own}
+use Rattle.editor.specs.Call.{TypeChar, TypeLimited, Tab, in_range, rule, apply, own}
 use Rattle.editor.proofs.KeptCall.{apply_facts}
 use Rattle.editor.proofs.TypingLaws.{still}
 
@@ -34,9 +35,9 @@ pub record Spaced (s : Screen) (l₀ : List ℕ) (n : ℕ) (l : List ℕ) (h : H
 
 -- m is the record after one more, g its head, and t says that the cursor has not moved
 module _ (s : Screen) (l₀ l m : List ℕ) (h g : Head) (n i : ℕ) (t : Bool) (more : i < n) (spaced : Spaced s l₀ n l h i)
-    (typed : Leaves (apply (TypeChar 32) (screen_with h l)) l m g) (is : t ≡ (eqb h.cursor.row g.cursor.row && eqb h.cursor.col g.cursor.col)) where
+    (typed : Leaves (apply (TypeLimited 32 MAX-LOGICAL) (screen_with h l)) l m g) (is : t ≡ (eqb h.cursor.row g.cursor.row && eqb h.cursor.col g.cursor.col)) where
   after : screen_with g m ≡ type_char (screen_with h l) 32
-  unfolding apply rule
+  unfolding apply rule type_char
   after = λ j. record { head = typed.head j; rows = typed.becomes.rows j }
 
   facts : ScreenFacts (screen_with g m)

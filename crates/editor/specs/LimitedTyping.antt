@@ -5,7 +5,7 @@ use Rattle.octets.specs.Answer.{is_refusal}
 use Rattle.octets.specs.Test.{every, is_byte}
 use Rattle.grid.specs.Conditions.{ValidRecord}
 use Rattle.grid.specs.Screen.{with_bit, printable}
-use Rattle.grid.specs.Record.{screen_of}
+use Rattle.grid.specs.Record.{screen_of, touched_of}
 use Rattle.line.specs.Line.{content, index}
 use Rattle.editor.specs.Call.Call.{TypeChar, TypeLimited}
 use Rattle.editor.specs.Outcome.{changing}
@@ -14,10 +14,11 @@ pub record LimitedTyping : Type 0 where
   -- "At L = 255 it is the old call": on every lent slice, refused or accepted
   pub at_255 : (ch : ℕ) (l : List ℕ) → changing (TypeLimited ch 255) l ≡ changing (TypeChar ch) l
   -- "Where padded content already holds L or more, inserting and extending change nothing": the screen is as it was, with the bit of (l) cleared as by every
-  -- call that is no print
+  -- call that is no print, and no row is touched
   pub full : (ch limit : ℕ) (l : List ℕ) → every is_byte l ≡ true → ValidRecord l → is_refusal (changing (TypeLimited ch limit) l).number ≡ false
       → let s = screen_of l in
-      limit ≤ length (content s) → (s.head.insert ≡ 1) ⊎ (length (content s) ≤ index s) → screen_of (changing (TypeLimited ch limit) l).rec ≡ with_bit s 0
+      limit ≤ length (content s) → (s.head.insert ≡ 1) ⊎ (length (content s) ≤ index s)
+      → (screen_of (changing (TypeLimited ch limit) l).rec ≡ with_bit s 0) × (touched_of (changing (TypeLimited ch limit) l).rec ≡ 0)
   -- "overwriting inside it still works": with insert off and the cursor inside the content it is the old call, however long the line is
   pub typed_over : (ch limit : ℕ) (l : List ℕ) → 1 ≤ limit → limit ≤ 255
       → let s = screen_of l in

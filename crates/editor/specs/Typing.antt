@@ -7,7 +7,8 @@ use Rattle.line.specs.Splice.{splice}
 
 -- ---- typing: cs is the editing content, i its index
 
--- insert puts the character at i, else it overwrites at i or extends at n; a content that is as long as the limit neither takes one in nor grows
+-- insert puts the character at i, else it overwrites at i or extends at the end; a content that holds as many as the limit or more neither takes one in nor
+-- grows
 unfoldable pub type_within : ℕ → Screen → List ℕ → ℕ → ℕ → Screen
 type_within limit s cs i ch =
     let full = leb limit (length cs) in

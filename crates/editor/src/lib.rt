@@ -1,4 +1,4 @@
-// The text screen of document 01: the rules of all calls (`specs/`), and the code of "Printing", with (a) of document 02, and "Typing and line keys". The code of motion, modes and
+// The text screen of document 01: the rules of all calls (`specs/`), and the code of "Printing", with (a) of document 02, and "Typing and line keys", with (g). The code of motion, modes and
 // texts is the crate `moves`.
 //
 // Promised: on any valid screen, the rows and the head afterwards are those of the call's rule (`specs/Call`), which is again a valid screen

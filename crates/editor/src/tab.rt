@@ -4,11 +4,12 @@ ghost use Rattle.grid.specs.Record.{rows_of, Leaves};
 ghost use Rattle.editor.specs.Tab.{type_spaces, next_stop, tabbed};
 ghost use Rattle.editor.specs.Call.{Tab, apply};
 
-use crate::typing::type_char;
+use crate::typing::type_limited;
 use grid::head;
 use grid::head::Head;
 use grid::layout::Record;
 use grid::screen::Screen;
+use line::text::MAX_LOGICAL;
 use values::cursor::Cursor;
 
 // n spaces, until one leaves the cursor still. Each is typed on the rows that the one before left, with the head that it handed back.
@@ -23,7 +24,7 @@ fn type_spaces(rec: &mut Record, old: &Screen, n: usize) -> Head
             rec: &copy,
             head: h,
         };
-        let g = type_char(rec, &s, b' ');
+        let g = type_limited(rec, &s, b' ', MAX_LOGICAL);
         if h.cursor == g.cursor {
             return g;
         }

@@ -5,7 +5,7 @@ ghost use Rattle.line.specs.Line.{MAX-LOGICAL, content, index};
 ghost use Rattle.line.specs.Splice.{splice};
 ghost use Rattle.line.specs.Text.{text_of};
 ghost use Rattle.editor.specs.Typing.{type_within};
-ghost use Rattle.editor.specs.Call.{TypeChar, TypeLimited, Backspace, DeleteChar, EraseToEnd, apply};
+ghost use Rattle.editor.specs.Call.{TypeLimited, Backspace, DeleteChar, EraseToEnd, apply};
 ghost use Rattle.editor.specs.Given.{without};
 
 use grid::head::Head;
@@ -14,7 +14,7 @@ use grid::screen::Screen;
 use line::content::content_and_cursor;
 use line::logical::Line;
 use line::splice::splice_logical;
-use line::text::{MAX_LOGICAL, Text};
+use line::text::Text;
 use std::marker::Model;
 
 // The line under the cursor while it is edited, with its characters.
@@ -73,29 +73,21 @@ fn type_within(rec: &mut Record, edited: &Edited, ch: u8, limit: usize) -> Head
 {
     let t = edited.text;
     let h = edited.line.head();
-    // Asked for room here, and below whether it is full: so of a wrong test the first fact that falls is one that is false (`must-fail/`).
+    let full = t.len >= limit;
     if h.insert == 1 {
-        if t.len < limit {
-            return edited.spliced(rec, t.inserted(ch));
+        if full {
+            return h;
         }
-        return h;
+        return edited.spliced(rec, t.inserted(ch));
     }
     let over = t.index < t.len;
     if over {
         return edited.spliced(rec, t.replaced(ch));
     }
-    if t.len >= limit {
+    if full {
         return h;
     }
     edited.spliced(rec, t.extended(ch))
-}
-
-#[tactic(auto, unfolding(crate::specs::Call::apply, crate::specs::Call::rule, crate::specs::Typing::type_char))]
-pub fn type_char(rec: &mut Record, old: &Screen, ch: u8) -> Head
-    requires { rows_of rec.old ≡ old.now.rows }
-    ensures { Leaves (apply (TypeChar ch) old.now) rec.old rec.new result }
-{
-    type_limited(rec, old, ch, MAX_LOGICAL)
 }
 
 pub fn type_limited(rec: &mut Record, old: &Screen, ch: u8, limit: usize) -> Head
