@@ -431,8 +431,9 @@ impl List {
     fn limit(&mut self) -> usize {
         let (length, any) = (limited::length(&self.screen), 1 + self.chance.below(255));
         let near = [length.saturating_sub(1), length, length + 1];
+        let less = 1 + self.chance.below(length.max(1));
         let limits = [
-            near[0], near[1], near[2], near[1], near[2], 1, any, 254, 255,
+            near[0], near[1], near[2], near[1], near[2], less, less, 1, any, 254, 255, 255,
         ];
         self.chance.one_of(&limits).clamp(1, 255)
     }
@@ -487,8 +488,26 @@ impl List {
                 self.go(row, col);
             }
             11 => self.call(EndOfLine),
+            12 => self.typed_after_13(row, ch, limit),
+            13 => self.typed_over_past_the_limit(row, ch),
             _ => self.one_call_of(&[MoveLeft, MoveLeft, MoveRight, MoveUp, Backspace, DeleteChar]),
         }
+    }
+
+    /// A character typed in this row directly after a print that ended with 13.
+    fn typed_after_13(&mut self, row: usize, ch: u8, limit: usize) {
+        self.go(row.saturating_sub(1), 0);
+        self.print(vec![13]);
+        self.call(TypeLimited(ch, limit));
+    }
+
+    /// A character typed over one that stands at the limit or behind it.
+    fn typed_over_past_the_limit(&mut self, row: usize, ch: u8) {
+        self.call(SetInsert(false));
+        let col = self.column();
+        self.go(row, col);
+        let limit = 1 + self.chance.below(col.max(1));
+        self.call(TypeLimited(ch, limit));
     }
 
     /// Short words over row ends, of the first and last letters and digits, between the characters next to those.

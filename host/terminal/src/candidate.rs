@@ -9,7 +9,7 @@ use crate::keys::Key;
 use crate::panel::{in_sight, Area, Panel, AROUND, SCREEN};
 use crate::sitting::{self, Told};
 use crate::span;
-use crate::submitted;
+use crate::submitted::{self, Submitted};
 use crate::terminal::{self, Input, Program, Then};
 use crate::told;
 use crate::udp::{drain, socket_to};
@@ -65,7 +65,7 @@ impl Candidate {
         let now = clock.now();
         let end = line::Candidate::new(&shared, &desk.screen, now);
         let (bad_line, socket) = (BadLine::new(faults, seed), socket_to(to)?);
-        let (front, window, words) = (Front::new(true), Window::default(), span::Words::of_field(desk.field));
+        let (front, window, words) = (Front::at_desk(&desk), Window::default(), span::Words::of_field(desk.field));
         let mut candidate = Self { desk, end, bad_line, socket, to, clock, now, notice: sitting.told, problem: None, front, window, words };
         candidate.full();
         Ok(candidate)
@@ -84,7 +84,7 @@ impl Candidate {
     fn press_in(&mut self, key: Key, size: Size) {
         self.desk.in_sight = in_sight(size.rows, &self.desk.screen) as u32;
         if let Err(refusal) = self.press(key) {
-            self.desk.submitted.push(format!("({refusal})"));
+            self.desk.submitted.push(Submitted::refused(refusal));
         }
     }
 
@@ -209,7 +209,7 @@ fn in_words(problem: &io::Error) -> String {
 
 /// What the field says of the last key, and how one types.
 pub fn typing(desk: &Desk, words: &span::Words) -> Vec<Part> {
-    desk.field_says.iter().cloned().chain(words.of(&desk.screen)).collect()
+    desk.field_says().into_iter().chain(words.of(&desk.screen)).collect()
 }
 
 /// Who it is, and where the screen stands.
@@ -240,10 +240,11 @@ impl Program for Candidate {
     }
 
     fn input(&mut self, input: Input, size: Size) -> Then {
-        self.desk.field_says = None;
         match self.front.take(self.meant(input), size) {
             Some(Input::Leave) => return Then::Leave,
             Some(Input::Key(key)) => self.press_in(key, size),
+            // What is told of a key is told until the next one that is taken.
+            _ if self.front.is_seen(size) => self.desk.kept = None,
             _ => {}
         }
         Then::GoOn
@@ -436,26 +437,34 @@ mod tests {
         let mut scene = Scene::with(1, Paper { text: Text::wards(), field: Field::new(5) });
         let status = |scene: &mut Scene| scene.rows(24)[22].clone();
         scene.types("WARD");
-        assert_eq!(status(&mut scene), "room for 1  note on the sitting: Ctrl-P");
+        assert_eq!(status(&mut scene), "room for 1 of 5  note on the sitting: Ctrl-P");
         scene.types("78");
-        let full = "FIELD FULL: 5 characters  room for 0  note on the sitting: Ctrl-P";
+        let full = "FIELD FULL: 5 characters  room for 0 of 5  note on the sitting: Ctrl-P";
         assert_eq!((scene.rows(24)[1].starts_with("WARD7 "), status(&mut scene).as_str()), (true, full));
         assert_eq!(scene.rows(24)[0], "CANDIDATE  sitting 7  call 6                                        Ctrl-G: help");
-        // Any key ends it, those of a page and those that mean nothing among them.
+        // It is not lost on a key that nobody sees the effect of.
+        let small = Size { rows: 10, ..USUAL };
+        assert_eq!(scene.candidate.input(Input::Key(Key::Left), small), Then::GoOn);
+        assert_eq!(status(&mut scene), full);
+        // Any other key ends it, those of a page and those that mean nothing among them.
         for inputs in [&[Input::Help, Input::Unknown][..], &[Input::Unknown], &[Input::Leave], &[Input::Key(Key::Left)]] {
             scene.types("9");
             inputs.iter().for_each(|&input| assert_eq!(scene.candidate.input(input, USUAL), Then::GoOn));
-            assert_eq!(status(&mut scene), "room for 0  note on the sitting: Ctrl-P");
+            assert_eq!(status(&mut scene), "room for 0 of 5  note on the sitting: Ctrl-P");
             scene.candidate.input(Input::Key(Key::End), USUAL);
         }
         scene.candidate.input(Input::Key(Key::CtrlEnter), USUAL);
-        assert_eq!(status(&mut scene), "Ctrl-Enter: off in a field  room for 0  note on the sitting: Ctrl-P");
+        assert_eq!(status(&mut scene), "Ctrl-Enter, -J: off in a field  room for 0 of 5  note on the sitting: Ctrl-P");
         scene.candidate.input(Input::Help, USUAL);
         assert!(scene.rows(24).iter().any(|row| row.contains("Ctrl-Enter, -J off in a field")));
         for input in [Input::Unknown, Input::Submitted] {
             assert_eq!(scene.candidate.input(input, USUAL), Then::GoOn);
         }
-        let told = "A field of 5 characters: a line takes no more, and Ctrl-Enter is off.";
+        // What is off loses nothing: so nothing is asked before one leaves.
+        let mut untouched = Scene::with(1, Paper { text: Text::wards(), field: Field::new(5) });
+        assert_eq!(untouched.candidate.input(Input::Key(Key::CtrlEnter), USUAL), Then::GoOn);
+        assert_eq!(untouched.candidate.input(Input::Leave, USUAL), Then::Leave);
+        let told = "A field of 5 characters: no more is typed into a line, Ctrl-Enter is off.";
         assert_eq!(scene.rows(24)[..4], ["NOTHING SUBMITTED YET", told, "notice 0", "  because of 0"]);
     }
 

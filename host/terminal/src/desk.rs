@@ -1,11 +1,12 @@
 //! The candidate's desk: the screen, what the keys do to it, the lines submitted, the text that is printed a screen at a time, the field that answers are
 //! typed into.
 use crate::canvas::Part;
-use crate::field::Field;
+use crate::field::{Field, Kept};
 use crate::glyphs;
 use crate::keys::{self, Key};
 use crate::listing::{Listing, Text};
 use crate::panel::SCREEN;
+use crate::submitted::Submitted;
 use futonrobin::{KeyTable, Refusal, Report, Screen, Shown};
 
 /// What the colour key goes through, the attribute of a new screen first.
@@ -27,11 +28,11 @@ impl From<Text> for Paper {
 pub struct Desk {
     pub screen: Screen,
     pub table: KeyTable,
-    pub submitted: Vec<String>,
+    pub submitted: Vec<Submitted>,
     pub listing: Listing,
     pub field: Option<Field>,
-    /// What is said of the last key, if the field kept it from what it does.
-    pub field_says: Option<Part>,
+    /// What in the field kept the last key from what it does, if anything did.
+    pub kept: Option<Kept>,
     /// So many rows of the screen are in sight; where nobody looks at a terminal, all of them.
     pub in_sight: u32,
 }
@@ -43,7 +44,7 @@ impl Desk {
 
     pub fn with(Paper { text, field }: Paper, width: u32, sitting: u32) -> Self {
         let (screen, table, listing) = (Screen::new(width, sitting), KeyTable::standard(), Listing::new(text));
-        Self { screen, table, submitted: Vec::new(), listing, field, field_says: None, in_sight: SCREEN as u32 }
+        Self { screen, table, submitted: Vec::new(), listing, field, kept: None, in_sight: SCREEN as u32 }
     }
 
     /// What it was set up with, for the next one.
@@ -54,6 +55,11 @@ impl Desk {
     /// What there is to know about the field, if there is one.
     pub fn notes(&self) -> Vec<String> {
         self.field.map(Field::told).into_iter().collect()
+    }
+
+    /// What the field says of the last key.
+    pub fn field_says(&self) -> Option<Part> {
+        Some(self.field?.says(self.kept?))
     }
 
     pub fn other_width(&self) -> u32 {
@@ -70,17 +76,21 @@ impl Desk {
     /// Presses a key, and hands on the screen after each call. While a text waits for a key, that key prints more of it and does nothing else; Esc drops
     /// the rest.
     pub fn press_and(&mut self, key: Key, mut made: impl FnMut(&Screen)) -> Result<(), Refusal> {
-        self.field_says = None;
+        let kept = self.kept.take();
         match key {
             Key::Escape if self.listing.waits() => self.listing.drop_rest(),
             _ if key == Key::Print || self.listing.waits() => self.listing.page(&mut self.screen, self.in_sight, made)?,
-            Key::CtrlEnter if self.field.is_some() => self.field_says = Some(Field::off()),
+            Key::CtrlEnter if self.field.is_some() => self.kept = Some(Kept::Joining),
+            Key::Enter => {
+                self.submit(kept)?;
+                made(&self.screen);
+            }
             _ => {
                 for key in self.single(key) {
                     self.call(key)?;
                     made(&self.screen);
                     // What follows finds the field full too; and what was cut there is not submitted by a key that could not type all of it.
-                    if self.field_says.is_some() {
+                    if self.kept.is_some() {
                         break;
                     }
                 }
@@ -89,10 +99,10 @@ impl Desk {
         Ok(())
     }
 
-    /// The keys that make one call each. With insert on Tab types spaces up to the next multiple of 8, and in a field each of them as any other character.
+    /// The keys that make one call each. With insert on Tab types spaces up to its next stop, and in a field each of them as any other character.
     fn single(&self, key: Key) -> Vec<Key> {
         match key {
-            Key::Tab if self.field.is_some() && self.screen.insert_mode() => vec![Key::Char(b' '); 8 - self.screen.cursor().1 as usize % 8],
+            Key::Tab if self.field.is_some() && self.screen.insert_mode() => vec![Key::Char(b' '); to_the_stop(&self.screen)],
             _ => keys::single(key, &self.table),
         }
     }
@@ -100,8 +110,15 @@ impl Desk {
     fn type_char(&mut self, ch: u8) -> Result<(), Refusal> {
         match self.field {
             None => self.screen.type_char(ch)?,
-            Some(field) => self.field_says = field.type_into(ch, &mut self.screen)?.then(|| field.full()),
+            Some(field) => self.kept = field.type_into(ch, &mut self.screen)?.then(|| field.without_room(&self.screen)),
         }
+        Ok(())
+    }
+
+    /// Submits the line, and keeps with it whether the field has kept the key before from being typed. In a text that is pasted nobody has seen that yet.
+    fn submit(&mut self, kept: Option<Kept>) -> Result<(), Refusal> {
+        let text = glyphs::string(&self.screen.take_logical_line()?);
+        self.submitted.push(Submitted { text, cut: matches!(kept, Some(Kept::Full | Kept::AtEnd)) });
         Ok(())
     }
 
@@ -110,7 +127,7 @@ impl Desk {
         let screen = &mut self.screen;
         match key {
             Key::Char(ch) => self.type_char(ch)?,
-            Key::Enter => self.submitted.push(glyphs::string(&screen.take_logical_line()?)),
+            Key::Enter => self.submit(None)?,
             Key::CtrlEnter => screen.ctrl_enter()?,
             Key::Tab => screen.tab()?,
             Key::Backspace => screen.backspace()?,
@@ -138,6 +155,14 @@ impl Desk {
     }
 }
 
+/// How many columns the cursor is before the next stop of Tab, at most up to the row's end: asked of a screen with insert off, where Tab moves.
+fn to_the_stop(screen: &Screen) -> usize {
+    let (col, mut bare) = (screen.cursor().1, Screen::new(screen.width(), 0));
+    bare.set_cursor(0, col).and_then(|()| bare.tab()).expect("a new screen has serials left");
+    let (row, stop) = bare.cursor();
+    (row * screen.width() + stop - col) as usize
+}
+
 /// 40 for 80, and 80 for 40.
 fn other_width(screen: &Screen) -> u32 {
     120 - screen.width()
@@ -154,6 +179,7 @@ mod tests {
     use crate::samples::cells;
 
     const FULL: &str = "FIELD FULL: 5 characters";
+    const AT_END: &str = "END OF THE FIELD: 5 characters";
 
     /// A desk with a field of so many characters.
     fn desk(characters: u8) -> Desk {
@@ -169,8 +195,13 @@ mod tests {
         text.bytes().for_each(|ch| assert_eq!(calls(desk, &[Key::Char(ch)]), 1, "each key is a call, whether it types or not"));
     }
 
-    fn said(desk: &Desk) -> &str {
-        desk.field_says.as_ref().map_or("", |(said, _)| said)
+    fn said(desk: &Desk) -> String {
+        desk.field_says().map_or(String::new(), |(said, _)| said)
+    }
+
+    /// The lines submitted, those behind a key for which there was no room with a mark.
+    fn submitted(desk: &Desk) -> Vec<String> {
+        desk.submitted.iter().map(|line| format!("{}{}", line.text, if line.cut { " (cut)" } else { "" })).collect()
     }
 
     /// The text of the line, and the cursor's column.
@@ -182,23 +213,23 @@ mod tests {
     fn a_field_is_typed_full_and_typed_over() {
         let mut desk = desk(5);
         types(&mut desk, "WARD7");
-        assert_eq!((line(&desk), said(&desk)), (("WARD7".into(), 5), ""));
+        assert_eq!((line(&desk), &*said(&desk)), (("WARD7".into(), 5), ""));
         types(&mut desk, "!");
-        assert_eq!((line(&desk), said(&desk)), (("WARD7".into(), 5), FULL));
+        assert_eq!((line(&desk), &*said(&desk)), (("WARD7".into(), 5), FULL));
         calls(&mut desk, &[Key::Left]);
-        assert_eq!(said(&desk), "", "until the next key");
+        assert_eq!(&*said(&desk), "", "until the next key");
         types(&mut desk, "8");
-        assert_eq!((line(&desk), said(&desk)), (("WARD8".into(), 5), ""));
+        assert_eq!((line(&desk), &*said(&desk)), (("WARD8".into(), 5), ""));
         calls(&mut desk, &[Key::Left, Key::Left, Key::Insert]);
         types(&mut desk, "S");
-        assert_eq!((line(&desk), said(&desk)), (("WARD8".into(), 3), FULL), "nothing is inserted");
+        assert_eq!((line(&desk), &*said(&desk)), (("WARD8".into(), 3), FULL), "nothing is inserted");
         calls(&mut desk, &[Key::Backspace]);
         types(&mut desk, "K");
-        assert_eq!((line(&desk), said(&desk)), (("WAKD8".into(), 3), ""), "what was deleted makes room");
+        assert_eq!((line(&desk), &*said(&desk)), (("WAKD8".into(), 3), ""), "what was deleted makes room");
         calls(&mut desk, &[Key::Enter]);
         types(&mut desk, "NEXT");
-        assert_eq!((line(&desk), said(&desk)), (("NEXT".into(), 4), ""), "each line is a field");
-        assert_eq!(desk.submitted, ["WAKD8"]);
+        assert_eq!((line(&desk), &*said(&desk)), (("NEXT".into(), 4), ""), "each line is a field");
+        assert_eq!(submitted(&desk), ["WAKD8"]);
     }
 
     #[test]
@@ -206,10 +237,10 @@ mod tests {
         let mut desk = desk(5);
         desk.screen.print_checked(b"WARD 7, BED 12").unwrap();
         types(&mut desk, "!");
-        assert_eq!((line(&desk), said(&desk)), (("WARD 7, BED 12".into(), 14), FULL));
+        assert_eq!((line(&desk), &*said(&desk)), (("WARD 7, BED 12".into(), 14), FULL));
         calls(&mut desk, &[Key::Left, Key::Left]);
         types(&mut desk, "34");
-        assert_eq!((line(&desk), said(&desk)), (("WARD 7, BED 34".into(), 14), ""));
+        assert_eq!((line(&desk), &*said(&desk)), (("WARD 7, BED 34".into(), 14), ""));
     }
 
     #[test]
@@ -218,22 +249,25 @@ mod tests {
         types(&mut desk, "A");
         calls(&mut desk, &[Key::Right; 3]);
         types(&mut desk, "BC");
-        assert_eq!((line(&desk), said(&desk)), (("A   B".into(), 5), FULL));
+        assert_eq!((line(&desk), &*said(&desk)), (("A   B".into(), 5), FULL));
     }
 
     #[test]
     fn tab_stops_where_the_field_ends() {
-        for (characters, typed, tab, told) in [(5, 2, 4, FULL), (8, 2, 6, ""), (12, 2, 6, ""), (12, 8, 5, "FIELD FULL: 12 characters")] {
+        for (characters, typed, tab, told) in [(5, 2, 4, AT_END), (8, 2, 6, ""), (12, 2, 6, ""), (12, 8, 5, "END OF THE FIELD: 12 characters")] {
             let mut desk = desk(characters);
             types(&mut desk, &"A".repeat(typed));
             calls(&mut desk, &[Key::Insert]);
             assert_eq!(calls(&mut desk, &[Key::Tab]), tab, "a call for each space");
             let end = (typed / 8 * 8 + 8).min(characters as usize);
-            assert_eq!((line(&desk).1 as usize, said(&desk)), (end, told));
+            assert_eq!((line(&desk).1 as usize, &*said(&desk)), (end, told));
         }
         let mut desk = desk(5);
         types(&mut desk, "AB");
-        assert_eq!((calls(&mut desk, &[Key::Tab]), line(&desk).1, said(&desk)), (1, 8, ""), "without insert it is a move");
+        assert_eq!((calls(&mut desk, &[Key::Tab]), line(&desk).1, &*said(&desk)), (1, 8, ""), "without insert it is a move");
+        types(&mut desk, "C");
+        assert_eq!((line(&desk), &*said(&desk)), (("AB".into(), 8), AT_END), "behind it there is no room, though little stands in it");
+        assert_eq!(calls(&mut Desk::new(80, 1), &[Key::Insert, Key::Tab]), 2, "without a field it is one call");
     }
 
     /// With room enough its spaces leave what the one call leaves, over the end of a row too.
@@ -255,33 +289,49 @@ mod tests {
         let mut field = desk(5);
         types(&mut field, "A");
         let before = field.screen.clone();
-        assert_eq!((calls(&mut field, &[Key::CtrlEnter]), said(&field)), (0, "Ctrl-Enter: off in a field"));
+        assert_eq!((calls(&mut field, &[Key::CtrlEnter]), &*said(&field)), (0, "Ctrl-Enter, -J: off in a field"));
         assert!(field.screen == before);
         types(&mut field, "B");
-        assert_eq!((line(&field), said(&field)), (("AB".into(), 2), ""));
+        assert_eq!((line(&field), &*said(&field)), (("AB".into(), 2), ""));
         let mut whole = Desk::new(80, 1);
-        assert_eq!((calls(&mut whole, &[Key::CtrlEnter]), said(&whole), whole.screen.cursor()), (1, "", (1, 0)));
+        assert_eq!((calls(&mut whole, &[Key::CtrlEnter]), &*said(&whole), whole.screen.cursor()), (1, "", (1, 0)));
     }
 
     #[test]
     fn a_function_key_that_does_not_fit_submits_nothing() {
         let mut desk = desk(5);
-        assert_eq!((calls(&mut desk, &[Key::Function(2)]), said(&desk)), (4, ""));
-        assert_eq!(desk.submitted, ["RUN"], "one that fits does");
+        assert_eq!((calls(&mut desk, &[Key::Function(2)]), &*said(&desk)), (4, ""));
+        assert_eq!(submitted(&desk), ["RUN"], "one that fits does");
         types(&mut desk, "OF");
-        assert_eq!((calls(&mut desk, &[Key::Function(5)]), said(&desk)), (4, FULL), "three of CONT, and the one that has no room");
+        assert_eq!((calls(&mut desk, &[Key::Function(5)]), &*said(&desk)), (4, FULL), "three of CONT, and the one that has no room");
         assert_eq!((line(&desk), desk.submitted.len()), (("OFCON".into(), 5), 1));
         calls(&mut desk, &[Key::Enter]);
-        assert_eq!(desk.submitted, ["RUN", "OFCON"]);
+        assert_eq!(submitted(&desk), ["RUN", "OFCON (cut)"]);
+    }
+
+    /// In a text that is pasted Enter comes at once: what was submitted says that it was cut, and so it does until the next key has been pressed.
+    #[test]
+    fn what_was_cut_in_a_pasted_text_is_marked() {
+        let mut desk = desk(5);
+        for ch in "WARD 12\rNEXT\rWARD 7\rEND".chars() {
+            let key = if ch == '\r' { Key::Enter } else { Key::Char(ch as u8) };
+            assert_eq!(calls(&mut desk, &[key]), 1);
+        }
+        assert_eq!((submitted(&desk), line(&desk).0), (["WARD (cut)", "NEXT", "WARD (cut)"].map(String::from).into(), "END".into()));
+        types(&mut desk, "LESS");
+        calls(&mut desk, &[Key::Left, Key::Enter]);
+        assert_eq!(submitted(&desk)[3..], ["ENDLE"], "who has pressed another key has seen it");
+        calls(&mut desk, &[Key::CtrlEnter, Key::Enter]);
+        assert_eq!(submitted(&desk)[4..], [""]);
     }
 
     #[test]
     fn a_text_is_printed_past_the_field() {
         let mut desk = desk(5);
         types(&mut desk, "WARDS!");
-        assert_eq!((calls(&mut desk, &[Key::Print]), said(&desk)), (1, ""));
+        assert_eq!((calls(&mut desk, &[Key::Print]), &*said(&desk)), (1, ""));
         assert!(desk.listing.waits());
-        assert_eq!((calls(&mut desk, &[Key::CtrlEnter]), said(&desk)), (1, ""), "a key that turns a page says nothing of the field");
+        assert_eq!((calls(&mut desk, &[Key::CtrlEnter]), &*said(&desk)), (1, ""), "a key that turns a page says nothing of the field");
     }
 
     #[test]

@@ -1,6 +1,18 @@
 //! A short answer field: a line into which no more than so many characters are typed (`--field N`).
 use crate::canvas::{Part, YELLOW};
+use crate::span;
 use futonrobin::{Refusal, Screen, Shown};
+
+/// What kept the last key from what it does.
+#[derive(Clone, Copy, PartialEq, Eq, Debug)]
+pub enum Kept {
+    /// The text in the line is as long as the field, or longer.
+    Full,
+    /// The text is shorter, and the cursor stands behind the field's end: the line reaches to it.
+    AtEnd,
+    /// Ctrl-Enter would join the next row to the line, past the field's end.
+    Joining,
+}
 
 /// How many characters it takes, 1 to 255.
 #[derive(Clone, Copy, PartialEq, Eq, Debug)]
@@ -22,19 +34,36 @@ impl Field {
         Ok((ch == 27 || ch >= 32) && screen.cursor() == before)
     }
 
-    /// What is said of a key that found it full.
-    pub fn full(self) -> Part {
-        (format!("FIELD FULL: {}", self.in_words()), YELLOW)
+    /// Why there is no room for a character on this screen.
+    pub fn without_room(self, screen: &Screen) -> Kept {
+        let (row, col) = screen.cursor();
+        let index = (row - span::rows(screen).start()) * screen.width() + col;
+        let shorter = screen.logical_text().len() < self.0.into();
+        if shorter && index >= self.0.into() {
+            Kept::AtEnd
+        } else {
+            Kept::Full
+        }
     }
 
-    /// What is said of Ctrl-Enter, which would join the next row to the line, past the field's end.
-    pub fn off() -> Part {
-        ("Ctrl-Enter: off in a field".into(), YELLOW)
+    /// What is said of the key.
+    pub fn says(self, kept: Kept) -> Part {
+        let said = match kept {
+            Kept::Full => format!("FIELD FULL: {}", self.in_words()),
+            Kept::AtEnd => format!("END OF THE FIELD: {}", self.in_words()),
+            Kept::Joining => "Ctrl-Enter, -J: off in a field".into(),
+        };
+        (said, YELLOW)
+    }
+
+    /// So many of all that it takes.
+    pub fn room(self, room: usize) -> String {
+        format!("room for {room} of {}", self.0)
     }
 
     /// What there is to know about it.
     pub fn told(self) -> String {
-        format!("A field of {}: a line takes no more, and Ctrl-Enter is off.", self.in_words())
+        format!("A field of {}: no more is typed into a line, Ctrl-Enter is off.", self.in_words())
     }
 
     fn in_words(self) -> String {
@@ -59,15 +88,17 @@ mod tests {
     #[test]
     fn no_field_takes_nothing() {
         assert_eq!((Field::new(0), Field::new(255)), (None, Some(Field::WHOLE_LINE)));
-        assert_eq!(Field(60).full(), ("FIELD FULL: 60 characters".into(), YELLOW));
-        assert_eq!(Field(1).full().0, "FIELD FULL: 1 character");
-        assert!([1, 255].iter().all(|&n| Field(n).told().len() <= 80 && Field(n).full().0.len().max(Field::off().0.len()) <= 40));
+        assert_eq!(Field(60).says(Kept::Full), ("FIELD FULL: 60 characters".into(), YELLOW));
+        assert_eq!(Field(1).says(Kept::AtEnd), ("END OF THE FIELD: 1 character".into(), YELLOW));
+        assert_eq!(Field(5).says(Kept::Joining), ("Ctrl-Enter, -J: off in a field".into(), YELLOW));
+        assert!([1, 255].iter().all(|&n| Field(n).told().len() <= 80));
+        assert!([Kept::Full, Kept::AtEnd, Kept::Joining].iter().all(|&kept| Field(255).says(kept).0.len() <= 40));
     }
 
     /// On any screen: it is too full exactly where nothing changes, and takes the character else as a screen without a field does.
     #[test]
     fn what_is_not_told_to_be_full_is_typed() {
-        let (mut random, mut met) = (Rand32::new(7), [0; 2]);
+        let (mut random, mut met, mut at_end) = (Rand32::new(7), [0; 2], 0);
         for list in 0..40 {
             let mut desk = Desk::new(if list % 2 == 0 { 40 } else { 80 }, 1);
             for _ in 0..500 {
@@ -81,10 +112,14 @@ mod tests {
                 assert_eq!(full, untouched, "list {list}, {field:?}: {before:?}");
                 assert!(full || limited == whole, "list {list}, {field:?}: {before:?}");
                 assert!(!full || room(&before, field) == 0, "list {list}, {field:?}: {before:?}");
+                if full && field.without_room(&before) == Kept::AtEnd {
+                    at_end += 1;
+                    assert!(before.logical_text().len() < field.0.into(), "list {list}, {field:?}: {before:?}");
+                }
                 met[full as usize] += 1;
             }
         }
-        assert!(met.iter().all(|&count| count > 500), "{met:?}");
+        assert!(met.iter().all(|&count| count > 500) && at_end > 50, "{met:?}, {at_end}");
     }
 
     #[test]

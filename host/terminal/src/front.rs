@@ -1,5 +1,6 @@
 //! What stands between the keys and a screen: pages that cover it, a question before something is lost, and a terminal that is too small.
 use crate::canvas::{wrapped, Canvas, Part, Size, RED, REVERSED, STRONG};
+use crate::desk::Desk;
 use crate::keys::Key;
 use crate::submitted::rows_on_a_page;
 use crate::terminal::Input;
@@ -27,15 +28,21 @@ enum Question {
 pub struct Front {
     page: Option<Page>,
     asked: Option<Question>,
-    /// Whether keys are typed here at all; and whether any was since the start.
+    /// Whether keys are typed here at all; which one is off; and whether any was typed since the start.
     typing: bool,
+    off: Option<Key>,
     typed: bool,
 }
 
 impl Front {
     /// Of a screen on which one types, or of a mirror.
     pub fn new(typing: bool) -> Self {
-        Self { page: None, asked: None, typing, typed: false }
+        Self { page: None, asked: None, typing, off: None, typed: false }
+    }
+
+    /// Of the screen on a desk; in a field a key is off, which loses nothing.
+    pub fn at_desk(desk: &Desk) -> Self {
+        Self { off: desk.field.map(|_| Key::CtrlEnter), ..Self::new(true) }
     }
 
     /// What is to be done for an input, in a terminal of this size.
@@ -46,7 +53,7 @@ impl Front {
             return self.answer(asked, Question::Leave, input);
         }
         // Nobody types on a screen that is not shown.
-        if !NEEDED.fits(size) {
+        if !self.is_seen(size) {
             return None;
         }
         if let Some(page) = self.page.take() {
@@ -58,7 +65,7 @@ impl Front {
             Input::Submitted => self.page = Some(Page::Submitted(0)),
             Input::Key(Key::Width) => return self.answer(asked, Question::Width, input),
             _ => {
-                self.typed |= self.typing && matches!(input, Input::Key(key) if !key.only_moves());
+                self.typed |= self.typing && matches!(input, Input::Key(key) if !key.only_moves() && Some(key) != self.off);
                 return Some(input);
             }
         }
@@ -72,6 +79,11 @@ impl Front {
         }
         self.asked = Some(question);
         None
+    }
+
+    /// Whether a terminal of this size shows more than that it is too small.
+    pub fn is_seen(&self, size: Size) -> bool {
+        NEEDED.fits(size)
     }
 
     pub fn page(&self) -> Option<Page> {
@@ -94,7 +106,7 @@ impl Front {
 
     /// What is shown in a terminal that is too small, if it is.
     pub fn too_small(&self, size: Size) -> Option<Canvas> {
-        if NEEDED.fits(size) {
+        if self.is_seen(size) {
             return None;
         }
         let (has, needs) = (format!("{} columns and {} rows", size.cols, size.rows), format!("{} and {}", NEEDED.cols, NEEDED.rows));

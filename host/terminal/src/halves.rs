@@ -10,7 +10,7 @@ use crate::help;
 use crate::keys::Key;
 use crate::panel::{in_sight, Area, Painted, Panel};
 use crate::span;
-use crate::submitted;
+use crate::submitted::{self, Submitted};
 use crate::terminal::{self, Input, Program, Then};
 use crate::told;
 use crate::view::{Alarm, View, HINT_BACK};
@@ -66,7 +66,7 @@ impl Halves {
         let (shared, desk) = (SharedKey::draw(), Desk::new(width, 1));
         let (candidate, invigilator) = (Candidate::new(&shared, &desk.screen, now), Invigilator::new(&shared));
         let (there, back) = (BadLine::new(faults, seed), BadLine::new(faults, !seed));
-        let (view, alarm, front, windows) = (View::default(), Alarm::default(), Front::new(true), Default::default());
+        let (view, alarm, front, windows) = (View::default(), Alarm::default(), Front::at_desk(&desk), Default::default());
         let (clock, words, mirror_in_sight) = (Clock::new(), span::Words::default(), false);
         Self { width, shared, desk, candidate, invigilator, there, back, view, alarm, front, windows, words, mirror_in_sight, clock, now }
     }
@@ -74,7 +74,8 @@ impl Halves {
     /// With this on the candidate's desk; the field is known at the mirror too.
     pub fn with(self, paper: Paper) -> Self {
         let (words, view) = (span::Words::of_field(paper.field), View::of_field(paper.field));
-        Self { desk: Desk::with(paper, self.width, self.desk.screen.sitting()), words, view, ..self }
+        let desk = Desk::with(paper, self.width, self.desk.screen.sitting());
+        Self { front: Front::at_desk(&desk), desk, words, view, ..self }
     }
 
     pub fn follower(&self) -> &Follower {
@@ -119,7 +120,7 @@ impl Halves {
                 self.send(sent)
             }
             Err(refusal) => {
-                self.desk.submitted.push(format!("({refusal})"));
+                self.desk.submitted.push(Submitted::refused(refusal));
                 Vec::new()
             }
         }
@@ -261,8 +262,11 @@ impl Program for Halves {
     }
 
     fn input(&mut self, input: Input, size: Size) -> Then {
-        self.desk.field_says = None;
-        match self.front.take(self.meant(input), size) {
+        let taken = self.front.take(self.meant(input), size);
+        if self.front.is_seen(size) && !matches!(taken, Some(Input::Key(_))) {
+            self.desk.kept = None;
+        }
+        match taken {
             Some(Input::Leave) => return Then::Leave,
             Some(Input::Restart) => {
                 let arriving = self.restart();
@@ -456,14 +460,14 @@ mod tests {
         // The longest words that can stand there, in the row that is left for them.
         let [candidate, mirror] = halves_of(&mut halves);
         assert_eq!(candidate[2], "FIELD FULL: 255 characters  INSERT  …");
-        assert_eq!(mirror[2..], ["shows call 257 of 257  INSERT", "room for 0  line in rows 1 to 7  …"]);
+        assert_eq!(mirror[2..], ["shows call 257 of 257  INSERT", "room for 0 of 255  …"]);
         halves.input(Input::Key(Key::CtrlEnter), BOTH);
-        assert_eq!(halves_of(&mut halves)[0][2], "Ctrl-Enter: off in a field  INSERT  …");
+        assert_eq!(halves_of(&mut halves)[0][2], "Ctrl-Enter, -J: off in a field  …");
         halves.input(Input::Key(Key::Insert), BOTH);
         types(&mut halves, b"A");
         assert_eq!(halves_of(&mut halves)[0][2], "FIELD FULL: 255 characters  …");
         halves.input(Input::Loss, BOTH);
-        assert_eq!(halves_of(&mut halves)[0][2], "room for 0  line in rows 1 to 7", "any key ends it");
+        assert_eq!(halves_of(&mut halves)[0][2], "room for 0 of 255  line in rows 1 to 7", "any key ends it");
     }
 
     #[test]
@@ -472,11 +476,15 @@ mod tests {
         for _ in 0..2 {
             types(&mut halves, b"WARD 7");
             let [candidate, mirror] = halves_of(&mut halves);
-            assert!(candidate.contains(&"room for 54".into()) && mirror.contains(&"shows call 6 of 6  room for 54".into()), "{mirror:?}");
+            assert!(candidate.contains(&"room for 54 of 60".into()) && mirror.contains(&"shows call 6 of 6  room for 54 of 60".into()), "{mirror:?}");
             halves.input(Input::Restart, BOTH);
         }
         halves.input(Input::Submitted, BOTH);
-        assert_eq!(shown(&mut halves, BOTH)[1], "A field of 60 characters: a line takes no more, and Ctrl-Enter is off.");
+        assert_eq!(shown(&mut halves, BOTH)[1], "A field of 60 characters: no more is typed into a line, Ctrl-Enter is off.");
+        for input in [Input::Unknown, Input::Help] {
+            halves.input(input, BOTH);
+        }
+        assert!(shown(&mut halves, BOTH).iter().any(|row| row.contains("Ctrl-Enter, -J off in a field")));
     }
 
     /// The rows of a half that begins in this column, compared with the screen's cells.

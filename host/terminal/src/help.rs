@@ -20,6 +20,7 @@ const fn destroying(key: &'static str, does: &'static str) -> Entry {
 }
 
 const CTRL_ENTER: &str = "Ctrl-Enter, -J";
+const SUBMITS: &str = "a ← in one submits it";
 
 pub const CANDIDATE: &[Entry] = &[
     key("Enter", "submits the line"),
@@ -38,7 +39,7 @@ pub const CANDIDATE: &[Entry] = &[
     destroying("Ctrl-Home", "clears the screen"),
     key("Ctrl-C", "next row, no submitting"),
     key("F1 to F10", "type the strip's texts;"),
-    key("", "a ← in one submits it"),
+    key("", SUBMITS),
     key("Ctrl-A", "the next colour"),
     key("Ctrl-K", "key strip on and off"),
     destroying("Ctrl-W", "the other width; clears"),
@@ -48,10 +49,14 @@ pub const CANDIDATE: &[Entry] = &[
     destroying("Ctrl-Q", "leaves"),
 ];
 
-/// The candidate's keys, one of which is off in a field.
+/// The candidate's keys, and what two of them do in a field.
 pub fn candidate(field: Option<Field>) -> Vec<Entry> {
-    let off = |entry: &Entry| if field.is_some() && entry.key == CTRL_ENTER { key(CTRL_ENTER, "off in a field") } else { *entry };
-    CANDIDATE.iter().map(off).collect()
+    let entry = |entry: &Entry| match field {
+        Some(_) if entry.key == CTRL_ENTER => key(CTRL_ENTER, "off in a field"),
+        Some(_) if entry.does == SUBMITS => key("", "a ← submits if all fits"),
+        _ => *entry,
+    };
+    CANDIDATE.iter().map(entry).collect()
 }
 
 /// With both ends in one terminal.
@@ -110,10 +115,11 @@ mod tests {
 
     #[test]
     fn what_is_off_in_a_field_is_not_said_to_work() {
-        let does =
-            |field| candidate(field).iter().filter(|entry| entry.key.starts_with("Ctrl-Enter")).map(|entry| entry.does).collect::<Vec<_>>();
-        assert_eq!((does(None), does(Field::new(60))), (vec!["adds the next row to it"], vec!["off in a field"]));
-        assert_eq!(candidate(Field::new(60)).len(), CANDIDATE.len());
+        let (whole, field) = (candidate(None), candidate(Field::new(60)));
+        let others = whole.iter().zip(&field).filter(|(whole, field)| whole.does != field.does);
+        let others = others.map(|(whole, field)| [whole.does, field.does]).collect::<Vec<_>>();
+        assert_eq!(others, [["adds the next row to it", "off in a field"], ["a ← in one submits it", "a ← submits if all fits"]]);
+        assert_eq!(field.len(), CANDIDATE.len());
     }
 
     #[test]

@@ -26,7 +26,7 @@ pub fn room(shown: &impl Shown, field: Field) -> usize {
 
 /// The words of the record that was asked about last: to find the room takes some hundred calls, and a screen is painted often.
 pub struct Words {
-    field: Field,
+    field: Option<Field>,
     last: RefCell<(Vec<u8>, Vec<Part>)>,
 }
 
@@ -39,7 +39,7 @@ impl Default for Words {
 impl Words {
     /// Where one types into a field, if there is one.
     pub fn of_field(field: Option<Field>) -> Self {
-        Self { field: field.unwrap_or(Field::WHOLE_LINE), last: RefCell::default() }
+        Self { field, last: RefCell::default() }
     }
 
     pub fn of(&self, shown: &impl Shown) -> Vec<Part> {
@@ -52,10 +52,10 @@ impl Words {
 }
 
 /// How one types there, and what is known of the line, in words.
-fn words(shown: &impl Shown, field: Field) -> Vec<Part> {
-    let (rows, room) = (rows(shown), room(shown, field));
+fn words(shown: &impl Shown, field: Option<Field>) -> Vec<Part> {
+    let (rows, room) = (rows(shown), room(shown, field.unwrap_or(Field::WHOLE_LINE)));
     let insert = shown.insert_mode().then(|| ("INSERT".into(), STRONG));
-    let room = (format!("room for {room}"), if room == 0 { YELLOW } else { PLAIN });
+    let room = (field.map_or(format!("room for {room}"), |field| field.room(room)), if room == 0 { YELLOW } else { PLAIN });
     let over = (rows.start() < rows.end()).then(|| (format!("line in rows {} to {}", rows.start() + 1, rows.end() + 1), PLAIN));
     insert.into_iter().chain([room]).chain(over).collect()
 }
@@ -96,15 +96,15 @@ mod tests {
         let (mut screen, mut mirror) = (Screen::new(40, 1), Mirror::new(40, 1));
         let said =
             |shown: &Screen| Words::of_field(Field::new(60)).of(shown).into_iter().map(|(text, _)| text).collect::<Vec<_>>().join(", ");
-        assert_eq!(said(&screen), "room for 60");
+        assert_eq!(said(&screen), "room for 60 of 60");
         screen.print_checked(&[b'A'; 50]).unwrap();
-        assert_eq!(said(&screen), "room for 10, line in rows 1 to 2");
+        assert_eq!(said(&screen), "room for 10 of 60, line in rows 1 to 2");
         screen.set_cursor(1, 19).unwrap();
-        assert_eq!(said(&screen), "room for 1, line in rows 1 to 2", "a line reaches to the cursor");
+        assert_eq!(said(&screen), "room for 1 of 60, line in rows 1 to 2", "a line reaches to the cursor");
         screen.set_cursor(1, 30).unwrap();
-        assert_eq!(said(&screen), "room for 0, line in rows 1 to 2", "and beyond the field too");
+        assert_eq!(said(&screen), "room for 0 of 60, line in rows 1 to 2", "and beyond the field too");
         screen.print_checked(b"ANOTHER").unwrap();
-        assert_eq!(said(&screen), "room for 0, line in rows 1 to 2", "a longer line has none");
+        assert_eq!(said(&screen), "room for 0 of 60, line in rows 1 to 2", "a longer line has none");
         mirror.arrive(screen.report_full()).unwrap();
         assert_eq!(Words::of_field(Field::new(60)).of(&mirror), Words::of_field(Field::new(60)).of(&screen));
         assert_eq!(Words::default().of(&mirror)[0].0, "room for 178", "who does not know of it counts by the line");

@@ -1,17 +1,38 @@
 //! The submitted lines under a screen, and on a page of their own. None is ever cut: what has no room is named, or left out, and stands on the page.
 use crate::canvas::{broken, Canvas, Part, PLAIN, STRONG};
+use futonrobin::Refusal;
+
+/// A line that was submitted.
+#[derive(Clone, PartialEq, Eq, Debug)]
+pub struct Submitted {
+    pub text: String,
+    /// The key before had no room in the field: something was left out.
+    pub cut: bool,
+}
+
+impl Submitted {
+    /// A refusal stands among the lines: that of a spent serial, after which no key does anything.
+    pub fn refused(refusal: Refusal) -> Self {
+        Self { text: format!("({refusal})"), cut: false }
+    }
+
+    /// What stands before its text.
+    pub fn named(&self, number: usize) -> String {
+        format!("submitted {number}{}: ", if self.cut { ", field full" } else { "" })
+    }
+}
 
 /// The rows of a submitted line, in so many columns.
-fn rows_of(number: usize, line: &str, cols: usize) -> Vec<String> {
-    let before = format!("submitted {number}: ");
+fn rows_of(number: usize, line: &Submitted, cols: usize) -> Vec<String> {
+    let before = line.named(number);
     let indent = before.chars().count();
-    let pieces = if line.is_empty() { vec![String::new()] } else { broken(line, cols.saturating_sub(indent)) };
+    let pieces = if line.text.is_empty() { vec![String::new()] } else { broken(&line.text, cols.saturating_sub(indent)) };
     let row = |(at, piece): (usize, String)| if at == 0 { format!("{before}{piece}") } else { format!("{}{piece}", " ".repeat(indent)) };
     pieces.into_iter().enumerate().map(row).collect()
 }
 
 /// The last line in a row of a status, if it has room there.
-pub fn in_a_row(submitted: &[String], cols: usize) -> Option<Part> {
+pub fn in_a_row(submitted: &[Submitted], cols: usize) -> Option<Part> {
     let (number, line) = (submitted.len(), submitted.last()?);
     let rows = rows_of(number, line, cols);
     Some((if rows.len() == 1 { rows.concat() } else { named(number) }, PLAIN))
@@ -22,7 +43,7 @@ fn named(number: usize) -> String {
 }
 
 /// The last ones that have room in the rows from this one on.
-pub fn list(canvas: &mut Canvas, top: usize, submitted: &[String]) {
+pub fn list(canvas: &mut Canvas, top: usize, submitted: &[Submitted]) {
     let free = canvas.size.rows.saturating_sub(top);
     let mut rows: Vec<String> = Vec::new();
     for (at, line) in submitted.iter().enumerate().rev() {
@@ -39,7 +60,7 @@ pub fn list(canvas: &mut Canvas, top: usize, submitted: &[String]) {
 }
 
 /// All of them on a page, under what there is to know about the sitting; so many rows back from the end, or as many as there are, which it answers.
-pub fn page(canvas: &mut Canvas, notice: &[String], submitted: &[String], back: usize) -> usize {
+pub fn page(canvas: &mut Canvas, notice: &[String], submitted: &[Submitted], back: usize) -> usize {
     let lines = submitted.iter().enumerate().flat_map(|(at, line)| rows_of(at + 1, line, canvas.size.cols));
     let all: Vec<_> = notice.iter().cloned().chain(lines).collect();
     let title = match submitted.len() {
@@ -75,8 +96,15 @@ mod tests {
         (0..rows).map(|row| canvas.line(row)).collect()
     }
 
-    fn lines() -> Vec<String> {
-        ["10 WARD 7", "20 WARD 8: BED 1 FREE, BED 2  FREE", ""].map(String::from).into()
+    fn lines() -> Vec<Submitted> {
+        ["10 WARD 7", "20 WARD 8: BED 1 FREE, BED 2  FREE", ""].map(|text| Submitted { text: text.into(), cut: false }).into()
+    }
+
+    #[test]
+    fn one_that_was_cut_says_so() {
+        let cut = [Submitted { text: "WARD".into(), cut: true }];
+        assert_eq!(in_a_row(&cut, 80).unwrap().0, "submitted 1, field full: WARD");
+        assert_eq!(shown(1, |canvas| list(canvas, 0, &cut)), ["submitted 1, field full: WARD"]);
     }
 
     #[test]

@@ -8,7 +8,8 @@ use terminal::keys::Key;
 use terminal::listing::Text;
 
 const FULL: &str = "FIELD FULL: 5 characters";
-const JOINING: &str = "Ctrl-Enter: off in a field";
+const AT_END: &str = "END OF THE FIELD: 5 characters";
+const JOINING: &str = "Ctrl-Enter, -J: off in a field";
 
 /// A desk of this width with a field of 5 characters.
 fn desk(width: u32) -> Desk {
@@ -27,10 +28,10 @@ impl Answering<'_> {
         for end in &self.ends {
             assert_eq!(end.wait_for_all_of(&self.person.desk.screen).rows[0], line);
         }
-        let said = self.person.desk.field_says.as_ref().map_or("", |(said, _)| said);
+        let said = self.person.desk.field_says().map_or(String::new(), |(said, _)| said);
         assert_eq!(said, told, "at the test's own desk");
         self.person.pane.wait(&format!("'{told}', and nothing else of the field"), |shown| {
-            [FULL, JOINING].iter().all(|&said| shown.has(said) == (said == told)) && shown.has("1LIST")
+            [FULL, AT_END, JOINING].iter().all(|&said| shown.has(said) == (said == told)) && shown.has("1LIST")
         });
     }
 
@@ -56,8 +57,12 @@ impl Answering<'_> {
         self.person.presses("C-e", Key::CtrlEnd);
         self.stands("WA", "");
         self.person.presses("Tab", Key::Tab);
-        self.stands("WA", FULL);
+        self.stands("WA", AT_END);
         assert_eq!(self.person.desk.screen.cursor(), (0, 5));
+    }
+
+    fn submitted(&self) -> Vec<&str> {
+        self.person.desk.submitted.iter().map(|line| line.text.as_str()).collect()
     }
 
     /// A function key whose text has no room types what has, and submits nothing; the line is a person's to submit.
@@ -66,12 +71,12 @@ impl Answering<'_> {
         self.person.types("A");
         self.person.presses("F5", Key::Function(5));
         self.stands("ACONT", "");
-        assert_eq!(self.person.desk.submitted, ["ACONT"]);
+        assert_eq!(self.submitted(), ["ACONT"]);
         self.person.presses("F10", Key::Function(10));
         self.stands("ACONT", FULL);
         self.person.presses("Enter", Key::Enter);
         self.stands("ACONT", "");
-        assert_eq!(self.person.desk.submitted, ["ACONT", "SCREE"]);
+        assert_eq!(self.submitted(), ["ACONT", "SCREE"]);
     }
 }
 
@@ -81,7 +86,7 @@ fn a_field_at_both_ends() {
         let (candidate, invigilator) = two(&format!("field-{cols}"), (cols, rows), "--field 5");
         let ends = [&candidate, &invigilator].map(|pane| Watched { pane, left: 0 }).into();
         let mut answering = Answering { person: Person { pane: &candidate, desk: desk(80) }, ends };
-        candidate.wait_for("room for 5");
+        candidate.wait_for("room for 5 of 5");
         answering.answers();
         answering.submits();
         let calls = answering.person.desk.screen.serial();
@@ -90,7 +95,7 @@ fn a_field_at_both_ends() {
         invigilator.wait_for("room for 255");
         candidate.press("C-p");
         candidate.wait("the field, and what was submitted", |shown| {
-            shown.has("A field of 5 characters: a line takes no more, and Ctrl-Enter is off.") && shown.has("submitted 2: SCREE")
+            shown.has("A field of 5 characters: no more is typed into a line, Ctrl-Enter is off.") && shown.has("submitted 2, field full: SCREE")
         });
         candidate.press("x C-g");
         candidate.wait_for("Ctrl-Enter, -J off in a field");
@@ -106,7 +111,7 @@ fn an_invigilator_who_knows_of_the_field_counts_by_it() {
     let candidate = Pane::over_udp("field-knows", USUAL.0, USUAL.1, &format!("candidate --to 127.0.0.1:{port} --field 5"));
     candidate.wait_for("1LIST");
     candidate.write("BED");
-    invigilator.wait_for("shows call 3 of 3  room for 2");
+    invigilator.wait_for("shows call 3 of 3  room for 2 of 5");
 }
 
 #[test]
@@ -124,7 +129,7 @@ fn a_field_in_the_demo() {
         pane.wait("an empty screen at both", |shown| {
             shown.has("INVIGILATOR  sitting 2")
                 && both(shown, "")
-                && shown.lines.iter().map(|line| line.matches("room for 5").count()).sum::<usize>() == 2
+                && shown.lines.iter().map(|line| line.matches("room for 5 of 5").count()).sum::<usize>() == 2
         });
         pane.write("WARD78");
         pane.wait(FULL, |shown| both(shown, "WARD7") && shown.has(FULL));
@@ -142,7 +147,7 @@ fn a_field_in_the_demo_of_the_usual_terminal() {
     answering.answers();
     pane.press("C-t");
     pane.wait("the mirror, and nothing of the last key", |shown| {
-        shown.lines[0].starts_with("INVIGILATOR") && shown.has("LEVEL, ") && shown.has("room for 0") && !shown.has(FULL)
+        shown.lines[0].starts_with("INVIGILATOR") && shown.has("LEVEL, ") && shown.has("room for 0 of 5") && !shown.has(AT_END)
     });
     answering.person.presses("Home", Key::Home);
     answering.person.types("TO");
@@ -159,7 +164,7 @@ fn a_longer_text_is_pasted_into_a_field_and_a_longer_line_typed_over() {
     let mut answering = Answering { person: Person { pane: &candidate, desk: desk(40) }, ends };
     answering.person.desk.in_sight = 19;
     answering.person.types(&"WARD 7, BED 12; ".repeat(20));
-    answering.stands("WARD", FULL);
+    answering.stands("WARD", AT_END);
     // The list is longer than the field: it is printed, and typed over, and takes nothing more.
     answering.person.presses("C-Home", Key::CtrlHome);
     answering.person.presses("C-f", Key::Print);
