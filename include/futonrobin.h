@@ -138,8 +138,8 @@ uint32_t screen_type_char(uint8_t *rec, size_t rec_len, uint32_t ch);
  * it takes none in addition, and cells, flags and cursor stay; what stands in it is still typed over, in a longer line too. The line reaches at least to
  * the cursor, with spaces before it. With FUTONROBIN_LIMIT_MAX it is screen_type_char.
  *
- * A character that is typed moves the cursor. So where screen_cursor answers after the call what it answered before, and the character is 27 or 32
- * to 255, the field was full.
+ * A character that is typed moves the cursor. So where screen_cursor answers after an accepted call what it answered before, and the character is 27
+ * or 32 to 255, the field was full.
  */
 uint32_t screen_type_limited(uint8_t *rec, size_t rec_len, uint32_t ch, uint32_t limit);
 

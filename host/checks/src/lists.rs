@@ -56,13 +56,6 @@ pub fn lists(fragments: usize) -> impl Strategy<Value = List> {
     (one_of(&[80, 40]), sittings(), steps).prop_map(|(width, sitting, steps)| List { width, sitting, steps })
 }
 
-/// Lists with waiting prints too. They are apart from the others, since the Rust lacks these: it cannot answer such a list by itself, nor is one recorded.
-pub fn lists_with_waiting(fragments: usize) -> impl Strategy<Value = List> {
-    let waiting = waiting().prop_map(|calls| calls.into_iter().map(Step::Call).collect());
-    let steps = vec(prop_oneof![4 => fragment(), 1 => waiting], 1..fragments).prop_map(|fragments| fragments.concat());
-    (one_of(&[80, 40]), sittings(), steps).prop_map(|(width, sitting, steps)| List { width, sitting, steps })
-}
-
 /// Lists with the calls too that the Rust lacks: waiting prints and limited typing. They are apart from the others, since it cannot answer such a list by itself,
 /// nor is one recorded.
 pub fn lists_with_added(fragments: usize) -> impl Strategy<Value = List> {

@@ -49,11 +49,6 @@ pub fn random_lists(seed: u64, cases: u32, tally: &mut Tally) -> Result<(), Stri
     try_all(seed, cases, &lists::lists(40), tally, play)
 }
 
-/// Random lists with waiting prints among their calls: each of these is judged by what it finds, and the Rust's screen goes on with the bytes that it takes.
-pub fn random_lists_with_waiting(seed: u64, cases: u32, tally: &mut Tally) -> Result<(), String> {
-    try_all(seed, cases, &lists::lists_with_waiting(40), tally, play)
-}
-
 /// Random lists with the calls too that the Rust lacks: each of these is judged by what it finds, and the Rust's screen goes on with what stands for it.
 pub fn random_lists_with_added(seed: u64, cases: u32, tally: &mut Tally) -> Result<(), String> {
     try_all(seed, cases, &lists::lists_with_added(40), tally, play)

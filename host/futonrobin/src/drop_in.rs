@@ -49,6 +49,11 @@ impl Screen {
         &self.screen
     }
 
+    /// The same for calls that the Rust lacks, as [`type_limited`](crate::Screen::type_limited): `screen.proved_mut().type_limited(b'A', 60)`.
+    pub fn proved_mut(&mut self) -> &mut crate::Screen {
+        &mut self.screen
+    }
+
     pub fn width(&self) -> usize {
         self.screen.width() as usize
     }

@@ -106,7 +106,7 @@ impl Screen {
     /// for ch in *b"WARD78" {
     ///     let before = screen.cursor();
     ///     screen.type_limited(ch, 5)?;
-    ///     // Whatever is typed moves the cursor: the field was full for the 8.
+    ///     // Whatever is typed moves the cursor: the field was full for the 8. (Of characters below 32 only 27 types anything.)
     ///     assert_eq!(screen.cursor() == before, ch == b'8');
     /// }
     /// assert_eq!(screen.logical_text(), b"WARD7");
@@ -121,8 +121,10 @@ impl Screen {
     /// # Ok::<(), Refusal>(())
     /// ```
     ///
-    /// The line reaches at least to the cursor: one that was moved to the right of the text has spaces before it that count. Other calls know nothing of a
-    /// limit: [`Screen::tab`] with insert on types up to 255 characters, and [`Screen::ctrl_enter`] joins a row to the line.
+    /// What was printed in the line counts too: a question stands in a row of its own, or the limit is larger by it. The line reaches at least to the cursor:
+    /// one that was moved to the right of the text has spaces before it that count. Other calls know nothing of a limit: [`Screen::tab`] with insert on types up
+    /// to 255 characters, and [`Screen::ctrl_enter`] joins a row to the line. A host that keeps a field calls `type_limited` for each space of a tab instead
+    /// (with insert on, from the cursor's column to the next multiple of 8, until one leaves the cursor still), and leaves `ctrl_enter` out.
     pub fn type_limited(&mut self, ch: u8, limit: u8) -> Result<(), Refusal> {
         Refusal::of_answer(ffi::screen_type_limited(&mut self.record, ch.into(), limit.into())).map(drop)
     }

@@ -254,7 +254,9 @@ mod tests {
 
     #[test]
     fn tab_stops_where_the_field_ends() {
-        for (characters, typed, tab, told) in [(5, 2, 4, AT_END), (8, 2, 6, ""), (12, 2, 6, ""), (12, 8, 5, "END OF THE FIELD: 12 characters")] {
+        for (characters, typed, tab, told) in
+            [(5, 2, 4, AT_END), (8, 2, 6, ""), (12, 2, 6, ""), (12, 8, 5, "END OF THE FIELD: 12 characters")]
+        {
             let mut desk = desk(characters);
             types(&mut desk, &"A".repeat(typed));
             calls(&mut desk, &[Key::Insert]);

@@ -476,7 +476,10 @@ mod tests {
         for _ in 0..2 {
             types(&mut halves, b"WARD 7");
             let [candidate, mirror] = halves_of(&mut halves);
-            assert!(candidate.contains(&"room for 54 of 60".into()) && mirror.contains(&"shows call 6 of 6  room for 54 of 60".into()), "{mirror:?}");
+            assert!(
+                candidate.contains(&"room for 54 of 60".into()) && mirror.contains(&"shows call 6 of 6  room for 54 of 60".into()),
+                "{mirror:?}"
+            );
             halves.input(Input::Restart, BOTH);
         }
         halves.input(Input::Submitted, BOTH);

@@ -9,11 +9,9 @@ use std::process::exit;
 use std::time::Instant;
 
 const RANDOM_LISTS: &str = "random lists from a new screen";
-const WAITING_LISTS: &str = "random lists with waiting prints";
 const ADDED_LISTS: &str = "random lists with calls that the Rust lacks";
 const LISTS: u32 = 3_000;
-const LISTS_THAT_WAIT: u32 = 1_000;
-const LISTS_WITH_ADDED: u32 = 1_500;
+const LISTS_WITH_ADDED: u32 = 2_500;
 const RECORDS: u32 = 150_000;
 const DRIVEN: u32 = 1_500;
 const PARTED: u32 = 30_000;
@@ -34,7 +32,6 @@ fn random_parts(seed: u64) -> Vec<Part> {
     println!("seed {seed}");
     vec![
         part(RANDOM_LISTS, |tally| random::random_lists(seed, LISTS, tally)),
-        part(WAITING_LISTS, |tally| random::random_lists_with_waiting(seed, LISTS_THAT_WAIT, tally)),
         part(ADDED_LISTS, |tally| random::random_lists_with_added(seed, LISTS_WITH_ADDED, tally)),
         part("single calls on random valid records", |tally| random::random_records(seed, RECORDS, tally)),
         part("random lists through the drop-in screen", |tally| drop_in::random_lists(seed, DRIVEN, tally)),
@@ -75,7 +72,7 @@ fn main() {
         round += 1;
     }
     println!();
-    let held = report(&parts, &[RANDOM_LISTS, WAITING_LISTS, ADDED_LISTS]);
+    let held = report(&parts, &[RANDOM_LISTS, ADDED_LISTS]);
     println!("seed {}, rounds {round}, {:.0} s: {}", options.seed, start.elapsed().as_secs_f64(), verdict(held));
     exit(!held as i32);
 }
