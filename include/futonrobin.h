@@ -136,7 +136,8 @@ uint32_t screen_type_char(uint8_t *rec, size_t rec_len, uint32_t ch);
 /*
  * Types as screen_type_char does, into a field: a limit of 1 to FUTONROBIN_LIMIT_MAX characters. Where the cursor's logical line holds that many or more,
  * it takes none in addition, and cells, flags and cursor stay; what stands in it is still typed over, in a longer line too. The line reaches at least to
- * the cursor, with spaces before it. With FUTONROBIN_LIMIT_MAX it is screen_type_char.
+ * the cursor, with spaces before it, and what is printed in it counts. With FUTONROBIN_LIMIT_MAX it is screen_type_char. A host that keeps a field types
+ * a tab's spaces by this call and leaves screen_ctrl_enter out (docs/ABI.md, "Short answer fields").
  *
  * A character that is typed moves the cursor. So where screen_cursor answers after an accepted call what it answered before, and the character is 27
  * or 32 to 255, the field was full.

@@ -494,19 +494,19 @@ impl List {
         }
     }
 
-    /// A character typed in this row directly after a print that ended with 13.
+    /// A character typed directly after a print that ended with 13, in the field's row for the most part.
     fn typed_after_13(&mut self, row: usize, ch: u8, limit: usize) {
         self.go(row.saturating_sub(1), 0);
         self.print(vec![13]);
         self.call(TypeLimited(ch, limit));
     }
 
-    /// A character typed over one that stands at the limit or behind it.
+    /// A character typed at the limit or behind it, over one that stands there, if one does.
     fn typed_over_past_the_limit(&mut self, row: usize, ch: u8) {
         self.call(SetInsert(false));
-        let col = self.column();
+        let col = self.column().max(1);
         self.go(row, col);
-        let limit = 1 + self.chance.below(col.max(1));
+        let limit = 1 + self.chance.below(col);
         self.call(TypeLimited(ch, limit));
     }
 

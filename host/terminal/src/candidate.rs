@@ -65,7 +65,7 @@ impl Candidate {
         let now = clock.now();
         let end = line::Candidate::new(&shared, &desk.screen, now);
         let (bad_line, socket) = (BadLine::new(faults, seed), socket_to(to)?);
-        let (front, window, words) = (Front::at_desk(&desk), Window::default(), span::Words::of_field(desk.field));
+        let (front, window, words) = (Front::of_field(desk.field), Window::default(), span::Words::of_field(desk.field));
         let mut candidate = Self { desk, end, bad_line, socket, to, clock, now, notice: sitting.told, problem: None, front, window, words };
         candidate.full();
         Ok(candidate)
@@ -240,11 +240,11 @@ impl Program for Candidate {
     }
 
     fn input(&mut self, input: Input, size: Size) -> Then {
-        match self.front.take(self.meant(input), size) {
+        let left = self.front.take(self.meant(input), size);
+        self.desk.given(input, left, size);
+        match left {
             Some(Input::Leave) => return Then::Leave,
             Some(Input::Key(key)) => self.press_in(key, size),
-            // What is told of a key is told until the next one that is taken.
-            _ if self.front.is_seen(size) => self.desk.kept = None,
             _ => {}
         }
         Then::GoOn
@@ -446,8 +446,11 @@ mod tests {
         let small = Size { rows: 10, ..USUAL };
         assert_eq!(scene.candidate.input(Input::Key(Key::Left), small), Then::GoOn);
         assert_eq!(status(&mut scene), full);
-        // Any other key ends it, those of a page and those that mean nothing among them.
-        for inputs in [&[Input::Help, Input::Unknown][..], &[Input::Unknown], &[Input::Leave], &[Input::Key(Key::Left)]] {
+        // Nor on one that means nothing here, as a character of a pasted text that code page 437 has not.
+        scene.candidate.input(Input::Unknown, USUAL);
+        assert_eq!(status(&mut scene), full);
+        // Any other key ends it, those of a page among them.
+        for inputs in [&[Input::Help, Input::Unknown][..], &[Input::Back], &[Input::Leave], &[Input::Key(Key::Left)]] {
             scene.types("9");
             inputs.iter().for_each(|&input| assert_eq!(scene.candidate.input(input, USUAL), Then::GoOn));
             assert_eq!(status(&mut scene), "room for 0 of 5  note on the sitting: Ctrl-P");

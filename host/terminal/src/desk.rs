@@ -1,12 +1,14 @@
 //! The candidate's desk: the screen, what the keys do to it, the lines submitted, the text that is printed a screen at a time, the field that answers are
 //! typed into.
-use crate::canvas::Part;
+use crate::canvas::{Part, Size};
 use crate::field::{Field, Kept};
+use crate::front::NEEDED;
 use crate::glyphs;
 use crate::keys::{self, Key};
 use crate::listing::{Listing, Text};
 use crate::panel::SCREEN;
 use crate::submitted::Submitted;
+use crate::terminal::Input;
 use futonrobin::{KeyTable, Refusal, Report, Screen, Shown};
 
 /// What the colour key goes through, the attribute of a new screen first.
@@ -60,6 +62,15 @@ impl Desk {
     /// What the field says of the last key.
     pub fn field_says(&self) -> Option<Part> {
         Some(self.field?.says(self.kept?))
+    }
+
+    /// An input was given in a terminal of this size, and this is left to do. What is told of the last key ends with it, unless nobody sees it do anything. A
+    /// key of the desk ends it itself.
+    pub fn given(&mut self, input: Input, left: Option<Input>, size: Size) {
+        let seen = input != Input::Unknown && NEEDED.fits(size);
+        if seen && !matches!(left, Some(Input::Key(_))) {
+            self.kept = None;
+        }
     }
 
     pub fn other_width(&self) -> u32 {
@@ -275,14 +286,21 @@ mod tests {
     /// With room enough its spaces leave what the one call leaves, over the end of a row too.
     #[test]
     fn tab_in_a_wide_field_is_tab() {
-        for (text, col) in [("", 0), ("WARD 7", 3), ("WARD 7", 20), (&"A".repeat(80), 79), (&"A".repeat(75), 75), (&"A".repeat(255), 12)] {
-            let [mut spaces, mut whole] = [desk(255), Desk::new(80, 1)];
+        let (row, nearly, longest) = ("A".repeat(80), "A".repeat(75), "A".repeat(255));
+        let at_80 = [("", 0), ("WARD 7", 3), ("WARD 7", 20), (&row, 79), (&nearly, 75), (&longest, 12)].map(|(text, col)| (80, text, col));
+        let at_40 = [("", 0), ("WARD 7", 36), (&row, 39)].map(|(text, col)| (40, text, col));
+        for (width, text, col) in at_80.into_iter().chain(at_40) {
+            let [mut spaces, mut whole] = [Field::new(255), None].map(|field| Desk::with(Paper { text: Text::wards(), field }, width, 1));
             for desk in [&mut spaces, &mut whole] {
                 types(desk, text);
                 desk.screen.set_cursor(0, col).unwrap();
                 calls(desk, &[Key::Insert, Key::Tab]);
             }
-            assert_eq!((cells(&spaces.screen), spaces.screen.cursor()), (cells(&whole.screen), whole.screen.cursor()), "{text}, {col}");
+            assert_eq!(
+                (cells(&spaces.screen), spaces.screen.cursor()),
+                (cells(&whole.screen), whole.screen.cursor()),
+                "{width}, {text}, {col}"
+            );
         }
     }
 

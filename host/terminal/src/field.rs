@@ -6,7 +6,7 @@ use futonrobin::{Refusal, Screen, Shown};
 /// What kept the last key from what it does.
 #[derive(Clone, Copy, PartialEq, Eq, Debug)]
 pub enum Kept {
-    /// The text in the line is as long as the field, or longer.
+    /// The line holds as many characters as the field, or more; spaces of whole rows count.
     Full,
     /// The text is shorter, and the cursor stands behind the field's end: the line reaches to it.
     AtEnd,
@@ -98,7 +98,7 @@ mod tests {
     /// On any screen: it is too full exactly where nothing changes, and takes the character else as a screen without a field does.
     #[test]
     fn what_is_not_told_to_be_full_is_typed() {
-        let (mut random, mut met, mut at_end) = (Rand32::new(7), [0; 2], 0);
+        let (mut random, mut met, mut kinds) = (Rand32::new(7), [0; 2], [0; 2]);
         for list in 0..40 {
             let mut desk = Desk::new(if list % 2 == 0 { 40 } else { 80 }, 1);
             for _ in 0..500 {
@@ -112,14 +112,18 @@ mod tests {
                 assert_eq!(full, untouched, "list {list}, {field:?}: {before:?}");
                 assert!(full || limited == whole, "list {list}, {field:?}: {before:?}");
                 assert!(!full || room(&before, field) == 0, "list {list}, {field:?}: {before:?}");
-                if full && field.without_room(&before) == Kept::AtEnd {
-                    at_end += 1;
-                    assert!(before.logical_text().len() < field.0.into(), "list {list}, {field:?}: {before:?}");
+                let (rows, mut back) = (span::rows(&before), before.clone());
+                back.end_of_line().unwrap();
+                if full && rows.start() == rows.end() && back.cursor().0 == before.cursor().0 {
+                    // In a line of one row there is room at the text's end exactly where the cursor alone was behind the field's.
+                    let at_the_end = field.without_room(&before) == Kept::AtEnd;
+                    assert_eq!(at_the_end, room(&back, field) > 0, "list {list}, {field:?}: {before:?}");
+                    kinds[at_the_end as usize] += 1;
                 }
                 met[full as usize] += 1;
             }
         }
-        assert!(met.iter().all(|&count| count > 500) && at_end > 50, "{met:?}, {at_end}");
+        assert!(met.iter().all(|&count| count > 500) && kinds.iter().all(|&count| count > 20), "{met:?}, {kinds:?}");
     }
 
     #[test]

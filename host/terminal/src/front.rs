@@ -1,6 +1,6 @@
 //! What stands between the keys and a screen: pages that cover it, a question before something is lost, and a terminal that is too small.
 use crate::canvas::{wrapped, Canvas, Part, Size, RED, REVERSED, STRONG};
-use crate::desk::Desk;
+use crate::field::Field;
 use crate::keys::Key;
 use crate::submitted::rows_on_a_page;
 use crate::terminal::Input;
@@ -40,9 +40,9 @@ impl Front {
         Self { page: None, asked: None, typing, off: None, typed: false }
     }
 
-    /// Of the screen on a desk; in a field a key is off, which loses nothing.
-    pub fn at_desk(desk: &Desk) -> Self {
-        Self { off: desk.field.map(|_| Key::CtrlEnter), ..Self::new(true) }
+    /// Of a screen on which one types, in a field if there is one: then a key is off, which loses nothing.
+    pub fn of_field(field: Option<Field>) -> Self {
+        Self { off: field.map(|_| Key::CtrlEnter), ..Self::new(true) }
     }
 
     /// What is to be done for an input, in a terminal of this size.
@@ -53,7 +53,7 @@ impl Front {
             return self.answer(asked, Question::Leave, input);
         }
         // Nobody types on a screen that is not shown.
-        if !self.is_seen(size) {
+        if !NEEDED.fits(size) {
             return None;
         }
         if let Some(page) = self.page.take() {
@@ -81,11 +81,6 @@ impl Front {
         None
     }
 
-    /// Whether a terminal of this size shows more than that it is too small.
-    pub fn is_seen(&self, size: Size) -> bool {
-        NEEDED.fits(size)
-    }
-
     pub fn page(&self) -> Option<Page> {
         self.page
     }
@@ -106,7 +101,7 @@ impl Front {
 
     /// What is shown in a terminal that is too small, if it is.
     pub fn too_small(&self, size: Size) -> Option<Canvas> {
-        if self.is_seen(size) {
+        if NEEDED.fits(size) {
             return None;
         }
         let (has, needs) = (format!("{} columns and {} rows", size.cols, size.rows), format!("{} and {}", NEEDED.cols, NEEDED.rows));

@@ -66,7 +66,7 @@ impl Halves {
         let (shared, desk) = (SharedKey::draw(), Desk::new(width, 1));
         let (candidate, invigilator) = (Candidate::new(&shared, &desk.screen, now), Invigilator::new(&shared));
         let (there, back) = (BadLine::new(faults, seed), BadLine::new(faults, !seed));
-        let (view, alarm, front, windows) = (View::default(), Alarm::default(), Front::at_desk(&desk), Default::default());
+        let (view, alarm, front, windows) = (View::default(), Alarm::default(), Front::of_field(desk.field), Default::default());
         let (clock, words, mirror_in_sight) = (Clock::new(), span::Words::default(), false);
         Self { width, shared, desk, candidate, invigilator, there, back, view, alarm, front, windows, words, mirror_in_sight, clock, now }
     }
@@ -75,7 +75,7 @@ impl Halves {
     pub fn with(self, paper: Paper) -> Self {
         let (words, view) = (span::Words::of_field(paper.field), View::of_field(paper.field));
         let desk = Desk::with(paper, self.width, self.desk.screen.sitting());
-        Self { front: Front::at_desk(&desk), desk, words, view, ..self }
+        Self { front: Front::of_field(desk.field), desk, words, view, ..self }
     }
 
     pub fn follower(&self) -> &Follower {
@@ -262,11 +262,9 @@ impl Program for Halves {
     }
 
     fn input(&mut self, input: Input, size: Size) -> Then {
-        let taken = self.front.take(self.meant(input), size);
-        if self.front.is_seen(size) && !matches!(taken, Some(Input::Key(_))) {
-            self.desk.kept = None;
-        }
-        match taken {
+        let left = self.front.take(self.meant(input), size);
+        self.desk.given(input, left, size);
+        match left {
             Some(Input::Leave) => return Then::Leave,
             Some(Input::Restart) => {
                 let arriving = self.restart();

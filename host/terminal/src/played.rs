@@ -84,7 +84,7 @@ impl Verdict {
             print_screen("INVIGILATOR", mirror, out)?;
         }
         for (at, line) in halves.desk.submitted.iter().enumerate() {
-            writeln!(out, "{}{}", line.named(at + 1), line.text)?;
+            writeln!(out, "{}{}", line.before_text(at + 1), line.text)?;
         }
         self.wrong.extend(self.witnesses.check_earlier(follower));
         for difference in &self.wrong {

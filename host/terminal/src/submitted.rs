@@ -1,4 +1,4 @@
-//! The submitted lines under a screen, and on a page of their own. None is ever cut: what has no room is named, or left out, and stands on the page.
+//! The submitted lines under a screen, and on a page of their own. Each is shown whole: what has no room is named, or left out, and stands on the page.
 use crate::canvas::{broken, Canvas, Part, PLAIN, STRONG};
 use futonrobin::Refusal;
 
@@ -17,14 +17,14 @@ impl Submitted {
     }
 
     /// What stands before its text.
-    pub fn named(&self, number: usize) -> String {
-        format!("submitted {number}{}: ", if self.cut { ", field full" } else { "" })
+    pub fn before_text(&self, number: usize) -> String {
+        format!("submitted {number}{}: ", if self.cut { ", cut" } else { "" })
     }
 }
 
 /// The rows of a submitted line, in so many columns.
 fn rows_of(number: usize, line: &Submitted, cols: usize) -> Vec<String> {
-    let before = line.named(number);
+    let before = line.before_text(number);
     let indent = before.chars().count();
     let pieces = if line.text.is_empty() { vec![String::new()] } else { broken(&line.text, cols.saturating_sub(indent)) };
     let row = |(at, piece): (usize, String)| if at == 0 { format!("{before}{piece}") } else { format!("{}{piece}", " ".repeat(indent)) };
@@ -35,11 +35,11 @@ fn rows_of(number: usize, line: &Submitted, cols: usize) -> Vec<String> {
 pub fn in_a_row(submitted: &[Submitted], cols: usize) -> Option<Part> {
     let (number, line) = (submitted.len(), submitted.last()?);
     let rows = rows_of(number, line, cols);
-    Some((if rows.len() == 1 { rows.concat() } else { named(number) }, PLAIN))
+    Some((if rows.len() == 1 { rows.concat() } else { named(number, line) }, PLAIN))
 }
 
-fn named(number: usize) -> String {
-    format!("submitted {number}: Ctrl-P shows it")
+fn named(number: usize, line: &Submitted) -> String {
+    format!("{}Ctrl-P shows it", line.before_text(number))
 }
 
 /// The last ones that have room in the rows from this one on.
@@ -53,8 +53,10 @@ pub fn list(canvas: &mut Canvas, top: usize, submitted: &[Submitted]) {
         }
         rows = [above, rows].concat();
     }
-    if rows.is_empty() && free > 0 && !submitted.is_empty() {
-        rows.push(named(submitted.len()));
+    if let ([], Some(last)) = (rows.as_slice(), submitted.last()) {
+        if free > 0 {
+            rows.push(named(submitted.len(), last));
+        }
     }
     rows.iter().enumerate().for_each(|(at, row)| canvas.text(top + at, 0, row, PLAIN));
 }
@@ -102,9 +104,14 @@ mod tests {
 
     #[test]
     fn one_that_was_cut_says_so() {
-        let cut = [Submitted { text: "WARD".into(), cut: true }];
-        assert_eq!(in_a_row(&cut, 80).unwrap().0, "submitted 1, field full: WARD");
-        assert_eq!(shown(1, |canvas| list(canvas, 0, &cut)), ["submitted 1, field full: WARD"]);
+        let cut = |text: &str| [Submitted { text: text.into(), cut: true }];
+        assert_eq!(in_a_row(&cut("WARD"), 80).unwrap().0, "submitted 1, cut: WARD");
+        assert_eq!(shown(1, |canvas| list(canvas, 0, &cut("WARD"))), ["submitted 1, cut: WARD"]);
+        // Where its text has no room, too.
+        let long = "A".repeat(60);
+        assert_eq!(in_a_row(&cut(&long), 80).unwrap().0, format!("submitted 1, cut: {long}"));
+        assert_eq!(in_a_row(&cut(&long), 40).unwrap().0, "submitted 1, cut: Ctrl-P shows it");
+        assert_eq!(shown(1, |canvas| list(canvas, 0, &cut(&long))), ["submitted 1, cut: Ctrl-P show…"]);
     }
 
     #[test]

@@ -280,5 +280,5 @@ fn help_and_the_recorded_keys() {
     let told = String::from_utf8(screens("--field 1").stdout).unwrap();
     let submitted = told.lines().filter_map(|line| line.strip_prefix("submitted ")?.split_once(": ")).collect::<Vec<_>>();
     assert!(submitted.len() > 10 && submitted.iter().all(|(_, text)| text.chars().count() <= 1), "{told}");
-    assert!(submitted.contains(&("1, field full", "5")), "{told}");
+    assert!(submitted.contains(&("1, cut", "5")), "{told}");
 }

@@ -95,8 +95,7 @@ fn a_field_at_both_ends() {
         invigilator.wait_for("room for 255");
         candidate.press("C-p");
         candidate.wait("the field, and what was submitted", |shown| {
-            shown.has("A field of 5 characters: no more is typed into a line, Ctrl-Enter is off.")
-                && shown.has("submitted 2, field full: SCREE")
+            shown.has("A field of 5 characters: no more is typed into a line, Ctrl-Enter is off.") && shown.has("submitted 2, cut: SCREE")
         });
         candidate.press("x C-g");
         candidate.wait_for("Ctrl-Enter, -J off in a field");
