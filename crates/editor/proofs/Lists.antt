@@ -99,23 +99,28 @@ valid_kept c l b v = go (is_refusal (changing c l).number) refl
         let p = stepped c l b v e in
         subst ValidRecord (sym p.left) (record_facts _ (state_valid _ p.facts))
 
--- and the next serial of the same sitting
+-- and what the rules give is read from it
+state_left_is : (c : Call) (l : List ℕ) → every is_byte l ≡ true → ValidRecord l → is_refusal (changing c l).number ≡ false
+    → read_state (changing c l).rec ≡ step c (read_state l)
+state_left_is c l b v e = let p = stepped c l b v e in ap read_state p.left ∙ state_back _ p.facts
+
+-- the next serial of the same sitting
 pub pair_kept : (c : Call) (l : List ℕ) → every is_byte l ≡ true → ValidRecord l → is_refusal (changing c l).number ≡ false
     → pair_of (changing c l).rec ≡ record { sitting = (pair_of l).sitting; serial = (pair_of l).serial + 1 }
 unfolding step next_pair read_state stamp_of
-pair_kept c l b v e = let p = stepped c l b v e in ap pair_of p.left ∙ pair_back _ p.facts
+pair_kept c l b v e = ap (λ (x : State). x.stamp.pair) (state_left_is c l b v e)
 
--- and the screen that the rules give
+-- the screen
 pub screen_left_is : (c : Call) (l : List ℕ) → every is_byte l ≡ true → ValidRecord l → is_refusal (changing c l).number ≡ false
     → screen_of (changing c l).rec ≡ after_call c (screen_of l)
 unfolding step read_state
-screen_left_is c l b v e = let p = stepped c l b v e in ap screen_of p.left ∙ ap (λ (x : State). x.screen) (state_back _ p.facts)
+screen_left_is c l b v e = ap (λ (x : State). x.screen) (state_left_is c l b v e)
 
 -- and the rows that differ
 pub touched_left_is : (c : Call) (l : List ℕ) → every is_byte l ≡ true → ValidRecord l → is_refusal (changing c l).number ≡ false
     → touched_of (changing c l).rec ≡ touched_rows (screen_of l).rows (after_call c (screen_of l)).rows
 unfolding step read_state stamp_of
-touched_left_is c l b v e = let p = stepped c l b v e in ap touched_of p.left ∙ ap (λ (x : State). x.stamp.touched) (state_back _ p.facts)
+touched_left_is c l b v e = ap (λ (x : State). x.stamp.touched) (state_left_is c l b v e)
 
 -- ---- accepted calls, from any state
 

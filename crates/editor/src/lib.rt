@@ -1,5 +1,5 @@
-// The text screen of document 01: the rules of all calls (`specs/`), and the code of "Printing", with (a) of document 02, and "Typing and line keys", with (g). The code of motion, modes and
-// texts is the crate `moves`.
+// The text screen of document 01: the rules of all calls (`specs/`), and the code of "Printing" and "Typing and line keys", with (a) and (g) of document 02. The
+// code of motion, modes and texts is the crate `moves`.
 //
 // Promised: on any valid screen, the rows and the head afterwards are those of the call's rule (`specs/Call`), which is again a valid screen
 // (`proofs/KeptCall`). The bit of document 02, (l), is no part of a rule: `print` tells what a print leaves of it, and the crate `calls` writes it.
