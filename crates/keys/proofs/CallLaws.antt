@@ -81,13 +81,16 @@ module _ (t : List ℕ) (offset width : ℕ) (out : List ℕ) where
     pub strip_may : (offset ≤ 9) × (width ≤ length out)
     strip_may = (known.offset_to, omega (arith, known.room))
 
-    pub strip_done : (m s : List ℕ) → s ≡ t → m ≡ write out 0 (strip (macros_of s) (lengths_of s) offset width) → Writes (stripping t offset width out) width m
+    pub strip_done : (m s : List ℕ) (macros : List (List ℕ)) (lengths : List ℕ) → s ≡ t → macros ≡ macros_of s → lengths ≡ lengths_of s
+        → m ≡ write out 0 (strip macros lengths offset width) → Writes (stripping t offset width out) width m
     unfolding stripping wrote
-    strip_done m s es e =
+    strip_done m s macros lengths es em el e =
         let text : List ℕ = strip (macros_of t) (lengths_of t) offset width in
         let len : length text ≡ width = length_strip (macros_of t) (lengths_of t) offset width known.widths in
         unless_ok _ out (wrote text out) none width m
         (record {
           number = sym len;
-          left = e ∙ ap (λ (l : List ℕ). write out 0 (strip (macros_of l) (lengths_of l) offset width)) es ∙ write_front out text (omega (arith, known.room));
+          left = e ∙ ap (λ (x : List (List ℕ)). write out 0 (strip x lengths offset width)) (em ∙ ap macros_of es)
+              ∙ ap (λ (x : List ℕ). write out 0 (strip (macros_of t) x offset width)) (el ∙ ap lengths_of es)
+              ∙ write_front out text (omega (arith, known.room));
         })

@@ -11,10 +11,9 @@ use lib.Seq.{take-suc, take-nil, take_all, length-take-le}
 use Rattle.std.proofs.lemmas.List.{take-map, drop-replicate}
 use Rattle.octets.specs.Part.{write}
 use Rattle.octets.proofs.PartLaws.{length_write, write_none, write_more, write_append, write_front, put_part}
-use Rattle.keys.specs.Keys.{length_at, macro_at, macros_of, lengths_of, display, displayed, digit, slot, slots_from}
-use Rattle.keys.proofs.TableLaws.{macros_at, lengths_at}
+use Rattle.keys.specs.Keys.{display, displayed, digit, slot, slots_from}
 
--- ---- `slot`: shown is what it shows of the macro, d what `digit` has answered, b what `display_byte` has
+-- ---- `slot`: n is how many bytes it shows, d what `digit` has answered, b what `display_byte` has
 
 take_of_take : (a b : ℕ) (l : List ℕ) → take a (take b l) ≡ take (min a b) l
 take_of_take zero b l =
@@ -38,23 +37,24 @@ shown_turn l shown i b h is =
     ∙ map-append display (take i shown) (get_or shown i 0 ∷ []) ∙ ap (λ (x : ℕ). s ++ x ∷ []) (sym is) in
     ap (λ (n : ℕ). set (write l 1 s) (1 + n) b) (sym len) ∙ write_more l 1 s b ∙ ap (write l 1) (sym more)
 
-module _ (t : List ℕ) (key : ℕ) (h : key < 10) where
-  shown_six : take 6 (displayed (macros_of t) key (get_or (lengths_of t) key 0)) ≡ map display (take (min 6 (length_at t key)) (macro_at t key))
+module _ (macros : List (List ℕ)) (lengths : List ℕ) (key : ℕ) where
+  shown_six : take 6 (displayed macros key (get_or lengths key 0)) ≡ map display (take (min 6 (get_or lengths key 0)) (get_or macros key []))
   unfolding displayed
   shown_six =
-      rw (macros_at t key h, lengths_at t key h)
-      (take-map display 6 (take (length_at t key) (macro_at t key)) ∙ ap (map display) (take_of_take 6 (length_at t key) (macro_at t key)))
+      let shown : List ℕ = get_or macros key [] in
+      take-map display 6 (take (get_or lengths key 0) shown) ∙ ap (map display) (take_of_take 6 (get_or lengths key 0) shown)
 
-  pub slot_end : (m bytes : List ℕ) (x n d i : ℕ) → x ≡ length_at t key → n ≡ min x 6 → bytes ≡ macro_at t key → d ≡ digit key
-      → length (take n bytes) ≤ i → m ≡ write (d ∷ replicate 7 32) 1 (map display (take i (take n bytes))) → m ≡ slot (macros_of t) (lengths_of t) key
+  pub slot_end : (m : List ℕ) (n d i : ℕ) → n ≡ min (get_or lengths key 0) 6 → d ≡ digit key → length (take n (get_or macros key [])) ≤ i
+      → m ≡ write (d ∷ replicate 7 32) 1 (map display (take i (take n (get_or macros key [])))) → m ≡ slot macros lengths key
   unfolding slot write
-  slot_end m bytes x n d i ex en e ed done em =
-      let s : List ℕ = map display (take n bytes) in
-      let of : n ≡ min 6 (length_at t key) = omega arith in
-      let six : s ≡ take 6 (displayed (macros_of t) key (get_or (lengths_of t) key 0)) =
-      ap (λ (l : List ℕ). map display (take n l)) e ∙ ap (λ (k : ℕ). map display (take k (macro_at t key))) of ∙ sym shown_six in
+  slot_end m n d i en ed done em =
+      let shown : List ℕ = take n (get_or macros key []) in
+      let s : List ℕ = map display shown in
+      let of : n ≡ min 6 (get_or lengths key 0) = omega arith in
+      let six : s ≡ take 6 (displayed macros key (get_or lengths key 0)) =
+      ap (λ (k : ℕ). map display (take k (get_or macros key []))) of ∙ sym shown_six in
       let few : length s ≤ 7 = simp (length-map, length-take) (omega arith) in
-      rw (em, take_all i (take n bytes) done, ed, ← six)
+      rw (em, take_all i shown done, ed, ← six)
       (ap (λ (r : List ℕ). digit key ∷ r) (write_front (replicate 7 32) s few ∙ ap (λ (r : List ℕ). s ++ r) (drop-replicate (length s) 7 32)))
 
 -- ---- `strip`

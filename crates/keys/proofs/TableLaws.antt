@@ -3,13 +3,14 @@
 use Prim.Native.Nat.{ℕ, ◌-◌, ◌≤◌, ◌<◌}
 use mathlib.Core.Path.{◌≡◌, refl}
 use mathlib.Core.Bool.{false}
-use mathlib.Core.List.{List, [], map}
+use mathlib.Core.List.{List, []}
 use mathlib.Core.Logic.{◌≢◌}
 use native.Mathlib.Omega.{arith}
 use lib.ListN.{length, get_or, take, drop, length-drop}
 use lib.Seq.{take_all}
 use borrow.Author.Tests.{le-leb, lt-leb, eq-eqb, ne_eqb}
 use Rattle.std.specs.List.{list_all, range_with_len}
+use Rattle.std.proofs.lemmas.List.FromFn.{fill_by_all}
 use Rattle.octets.specs.Test.{every, zerob}
 use Rattle.octets.specs.Table.{tabulate}
 use Rattle.octets.proofs.Tables.{get_d_tabulate}
@@ -28,23 +29,16 @@ pub length_ten : length ten_keys ≡ 10
 unfolding ten_keys
 length_ten = refl
 
--- a value for each key
-module _ {ℓ} {A : Type ℓ} (f : ℕ → A) where
-  each_is : map f ten_keys ≡ tabulate f 10
-  unfolding ten_keys tabulate
-  each_is = refl
-
-  each_at : (k : ℕ) (d : A) → k < 10 → get_or (map f ten_keys) k d ≡ f k
-  each_at k d h = rw each_is (get_d_tabulate f 10 k d h)
-
 module _ (t : List ℕ) where
-  pub macros_at : (k : ℕ) → k < 10 → get_or (macros_of t) k [] ≡ macro_at t k
-  unfolding macros_of
-  macros_at k h = each_at (macro_at t) k [] h
+  -- ---- `macros_of` and `lengths_of`, when all ten keys are read
 
-  pub lengths_at : (k : ℕ) → k < 10 → get_or (lengths_of t) k 0 ≡ length_at t k
-  unfolding lengths_of
-  lengths_at k h = each_at (length_at t) k 0 h
+  pub macros_end : (all : List (List ℕ)) → length all ≡ 10 → ((k : ℕ) → k < 10 → get_or all k [] ≡ macro_at t k) → all ≡ macros_of t
+  unfolding macros_of ten_keys
+  macros_end all len each = fill_by_all (macro_at t) all 10 [] len each
+
+  pub lengths_end : (all : List ℕ) → length all ≡ 10 → ((k : ℕ) → k < 10 → get_or all k 0 ≡ length_at t k) → all ≡ lengths_of t
+  unfolding lengths_of ten_keys
+  lengths_end all len each = fill_by_all (length_at t) all 10 0 len each
 
   -- ---- `key_ok`: n is the length that `length_at` has answered, m the macro that `macro_at` has
 

@@ -44,6 +44,8 @@ pub fn keys_strip(tab: &[u8], offset: u32, width: u32, out: &mut [u8]) -> Result
     // Kept so: casts, since no `From` leads from u32 to usize, and `try_from` would have a case that never comes.
     let columns = width as usize;
     let tab = accepted(tab, offset, columns, out)?;
-    strip::strip(tab, offset as usize, columns, out);
+    let macros = table::macros_of(tab);
+    let lengths = table::lengths_of(tab);
+    strip::strip(macros, lengths, offset as usize, columns, out);
     Ok(width)
 }

@@ -1,9 +1,9 @@
 // The strip: a slot of eight columns for each key shown.
 ghost use Rattle.std.specs.Prelude.{◌≡◌, ◌≤◌, ◌<◌, length};
 ghost use Rattle.octets.specs.Part.{write};
-ghost use Rattle.keys.specs.Keys.{macros_of, lengths_of, display, digit, slot, strip};
+ghost use Rattle.keys.specs.Keys.{display, digit, slot, strip};
 
-use crate::table::{self, KEYS, Table};
+use crate::table::{KEYS, Lengths, Macros};
 
 // A left arrow, which stands for 13 and 10.
 pub const CR_GLYPH: u8 = 0x1B;
@@ -34,12 +34,12 @@ fn digit(key: usize) -> u8
 
 // A key's slot: digit, first six display bytes, spaces to 8 columns.
 #[tactic(auto, using(octets::proofs::PartLaws::write_none, crate::proofs::StripLaws::shown_turn))]
-fn slot(tab: &Table, key: usize) -> [u8; SLOT]
+fn slot(macros: &Macros, lengths: &Lengths, key: usize) -> [u8; SLOT]
     requires { key < 10 }
-    ensures { result ≡ slot (macros_of tab.now) (lengths_of tab.now) key }
+    ensures { result ≡ slot macros.now lengths.now key }
 {
-    let n = table::length_at(tab, key).min(6);
-    let shown = &table::macro_at(tab, key)[..n];
+    let n = lengths[key].min(6);
+    let shown = &macros[key][..n];
     let mut slot = [b' '; SLOT];
     slot[0] = digit(key);
     for (i, b) in shown.iter().enumerate() {
@@ -49,13 +49,14 @@ fn slot(tab: &Table, key: usize) -> [u8; SLOT]
 }
 
 // Writes the slots that the width has room for, from the key at the offset on, round ten.
-#[tactic(auto, using(crate::proofs::StripLaws::strip_start, crate::proofs::StripLaws::strip_turn), unfolding(crate::specs::Keys::strip))]
-pub fn strip(tab: &Table, offset: usize, width: usize, out: &mut [u8])
+// Kept so: two arrays and no table, since a caller may have macros and lengths of its own, of any lengths.
+#[tactic(auto, using(crate::proofs::StripLaws::strip_start), unfolding(crate::specs::Keys::strip))]
+pub fn strip(macros: Macros, lengths: Lengths, offset: usize, width: usize, out: &mut [u8])
     requires { (offset ≤ 9) × (width ≤ length out.old) }
-    ensures { out.new ≡ write out.old 0 (strip (macros_of tab.now) (lengths_of tab.now) offset width) }
+    ensures { out.new ≡ write out.old 0 (strip macros lengths offset width) }
 {
     for i in 0..width / SLOT {
         let key = (offset + i) % KEYS;
-        out[SLOT * i..SLOT * i + SLOT].copy_from_slice(&slot(tab, key));
+        out[SLOT * i..SLOT * i + SLOT].copy_from_slice(&slot(&macros, &lengths, key));
     }
 }

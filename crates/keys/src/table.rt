@@ -1,6 +1,6 @@
-// The key table: ten times a length and fifteen bytes, of which as many are in use. Its layout is tested, and a key's macro is read out of it.
+// The key table: ten times a length and fifteen bytes, of which as many are in use. Its layout is tested, and the macros are read out of it.
 ghost use Rattle.std.specs.Prelude.{◌≡◌, ◌<◌};
-ghost use Rattle.keys.specs.Keys.{valid_key, tableb, length_at, macro_at};
+ghost use Rattle.keys.specs.Keys.{valid_key, tableb, length_at, macro_at, lengths_of, macros_of};
 
 use octets::zero;
 
@@ -14,6 +14,11 @@ pub const KEY_SIZE: usize = 16;
 pub const TABLE_SIZE: usize = 160;
 
 pub type Table = [u8; TABLE_SIZE];
+
+// The soft-key macros, and how many bytes of each are in use.
+pub type Macros = [[u8; MACRO_LEN]; KEYS];
+
+pub type Lengths = [usize; KEYS];
 
 // How many bytes of key k's macro are in use.
 #[tactic(auto, unfolding(crate::specs::Keys::length_at))]
@@ -32,6 +37,28 @@ pub fn macro_at(tab: &Table, k: usize) -> &[u8; MACRO_LEN]
     tab[KEY_SIZE * k + 1..KEY_SIZE * (k + 1)]
         .as_array()
         .unwrap()
+}
+
+#[tactic(auto, using(crate::proofs::TableLaws::macros_end))]
+pub fn macros_of(tab: &Table) -> Macros
+    ensures { result ≡ macros_of tab.now }
+{
+    let mut all = [[0; MACRO_LEN]; KEYS];
+    for (k, m) in all.iter_mut().enumerate() {
+        *m = *macro_at(tab, k);
+    }
+    all
+}
+
+#[tactic(auto, using(crate::proofs::TableLaws::lengths_end))]
+pub fn lengths_of(tab: &Table) -> Lengths
+    ensures { result ≡ lengths_of tab.now }
+{
+    let mut all = [0; KEYS];
+    for (k, n) in all.iter_mut().enumerate() {
+        *n = length_at(tab, k);
+    }
+    all
 }
 
 // A length 0 to 15, and unused bytes 0.

@@ -23,7 +23,7 @@ pub enum Refusal {
 }
 
 // Refusal k answers this and k.
-const REFUSED: u32 = 4294967040;
+pub const REFUSED: u32 = 4294967040;
 
 impl From<Refusal> for u32 {
     ghost from_gives = { λ refusal k. k ≡ number_of refusal };
