@@ -18,7 +18,6 @@ use Rattle.grid.specs.Screen.{Screen, with_cr, touched_rows}
 use Rattle.grid.specs.Record.{rows_of, head_of, screen_of, pair_of, stamp_of, read_state, state_bytes, front_bytes, Leaves, Moves}
 use Rattle.grid.specs.Facts.{HeadFits}
 use Rattle.grid.specs.declared.head.Head.{Head}
-use Rattle.grid.specs.declared.pair.Pair.{Pair}
 use Rattle.grid.proofs.Validity.{head_fits}
 use Rattle.grid.proofs.Record.{left_bytes}
 use Rattle.grid.proofs.TouchedLaws.{touched_none}
@@ -52,13 +51,13 @@ module _ (c : Call) (long : Bool) (o : ℕ) (l : List ℕ) (t : Tested c long o 
     outcome_done = pick (eqb (first_of (change_tests c l)) 0) _ _ (eq-eqb _ 0 none)
 
     -- the state that it leaves, from the rows of m and the head h
-    state_left : (h : Head) (m n : List ℕ) (p : Pair) (touched : ℕ) → h ≡ (apply c (screen_of l)).head → rows_of m ≡ (apply c (screen_of l)).rows → length m ≡ SIZE
-        → p ≡ next_pair (pair_of l) → touched ≡ touched_rows (rows_of l) (apply c (screen_of l)).rows
-        → n ≡ front_bytes (with_cr h (cr_after c (screen_of l))) (record { pair = p; touched = touched }) ++ drop FLAGS m
+    state_left : (h : Head) (m n : List ℕ) (touched : ℕ) → h ≡ (apply c (screen_of l)).head → rows_of m ≡ (apply c (screen_of l)).rows → length m ≡ SIZE
+        → touched ≡ touched_rows (rows_of l) (apply c (screen_of l)).rows
+        → n ≡ front_bytes (with_cr h (cr_after c (screen_of l))) (record { pair = next_pair (pair_of l); touched = touched }) ++ drop FLAGS m
         → n ≡ state_bytes (step c (read_state l))
     unfolding step after_call read_state stamp_of
-    state_left h m n p touched head rows size next et e =
-        left_bytes m n (with_cr h (cr_after c (screen_of l))) (apply c (screen_of l)).rows (record { pair = p; touched = touched }) size rows e ∙ rw (head, next, et) refl
+    state_left h m n touched head rows size et e =
+        left_bytes m n (with_cr h (cr_after c (screen_of l))) (apply c (screen_of l)).rows (record { pair = next_pair (pair_of l); touched = touched }) size rows e ∙ rw (head, et) refl
 
     -- work was lent the record k, to change too, and the screen s, to read from; it hands the head h on
     module _ (k : List ℕ) (s : Screen) (h : Head) (same : k ≡ l) (shows : s ≡ screen_of k) where
@@ -70,38 +69,38 @@ module _ (c : Call) (long : Bool) (o : ℕ) (l : List ℕ) (t : Tested c long o 
           let f = going c l none in
           subst HeadFits (sym (is ∙ ap (λ (x : Screen). (apply c x).head) its_screen)) (head_fits _ (apply_facts c (screen_of l) f.is_in_range f.start.valid.screen).head)
 
-      -- n is what the end of the call leaves, with the pair p and the bit cr
-      module _ (n : List ℕ) (p : Pair) (cr : ℕ) (next : p ≡ next_pair (pair_of l)) (bit : cr_after c (screen_of l) ≡ cr) where
+      -- n is what the end of the call leaves, with the bit cr
+      module _ (n : List ℕ) (cr : ℕ) (bit : cr_after c (screen_of l) ≡ cr) where
         -- work changed rows, and left m
-        pub rows_state : (m : List ℕ) → Leaves (apply c s) k m h → n ≡ changed_from p k (with_cr h cr) m → n ≡ state_bytes (step c (read_state l))
+        pub rows_state : (m : List ℕ) → Leaves (apply c s) k m h → n ≡ changed_from k (with_cr h cr) m → n ≡ state_bytes (step c (read_state l))
         unfolding changed_from
         rows_state m left e =
             let f : Leaves (apply c (screen_of l)) k m h = rw (← its_screen) left in
             let touched = ap (touched_rows (rows_of l)) f.becomes.rows in
-            state_left h m n p (touched_rows (rows_of l) (rows_of m)) f.head f.becomes.rows f.becomes.size next touched (rw (bit, ← same) e)
+            state_left h m n (touched_rows (rows_of l) (rows_of m)) f.head f.becomes.rows f.becomes.size touched (rw (bit, ← same) e)
 
         module _ (v : ℕ) (ev : v ≡ answer c (screen_of l)) where
-          pub rows_done : (m : List ℕ) → Leaves (apply c s) k m h → n ≡ changed_from p k (with_cr h cr) m → Answers (changing c l) v n
+          pub rows_done : (m : List ℕ) → Leaves (apply c s) k m h → n ≡ changed_from k (with_cr h cr) m → Answers (changing c l) v n
           rows_done m left e = rw outcome_done (record { number = ev; left = rows_state m left e })
 
           -- work changed none
-          head_done : Moves (apply c s) s h → n ≡ moved_from p (with_cr h cr) k → Answers (changing c l) v n
+          head_done : Moves (apply c s) s h → n ≡ moved_from (with_cr h cr) k → Answers (changing c l) v n
           unfolding moved_from
           head_done moves e =
               let f : Moves (apply c (screen_of l)) (screen_of l) h = rw (← its_screen) moves in
               let touched = sym (ap (touched_rows (rows_of l)) f.rows ∙ touched_none (rows_of l)) in
               rw outcome_done
-              (record { number = ev; left = state_left h l n p 0 f.head (sym f.rows) (going c l none).start.size next touched (rw (bit, ← same) e) })
+              (record { number = ev; left = state_left h l n 0 f.head (sym f.rows) (going c l none).start.size touched (rw (bit, ← same) e) })
 
 -- ---- `moved` and `changed`: a call that answers 0 and lends nothing beside the record
 
 module _ (c : Call) (o cr : ℕ) (l : List ℕ) (plain : Plain c o cr l) (zero : 0 ≡ change_found true o l) (k : List ℕ) (s : Screen) (h : Head) (same : k ≡ l)
-    (shows : s ≡ screen_of k) (n : List ℕ) (p : Pair) (next : p ≡ next_pair (pair_of l)) where
-  pub changed_done : (m : List ℕ) → Leaves (apply c s) k m h → n ≡ changed_from p k (with_cr h cr) m → Answers (changing c l) 0 n
-  changed_done = rows_done c true o l plain.tested zero k s h same shows n p cr next plain.bit 0 (sym plain.answer)
+    (shows : s ≡ screen_of k) (n : List ℕ) where
+  pub changed_done : (m : List ℕ) → Leaves (apply c s) k m h → n ≡ changed_from k (with_cr h cr) m → Answers (changing c l) 0 n
+  changed_done = rows_done c true o l plain.tested zero k s h same shows n cr plain.bit 0 (sym plain.answer)
 
-  pub moved_done : Moves (apply c s) s h → n ≡ moved_from p (with_cr h cr) k → Answers (changing c l) 0 n
-  moved_done = head_done c true o l plain.tested zero k s h same shows n p cr next plain.bit 0 (sym plain.answer)
+  pub moved_done : Moves (apply c s) s h → n ≡ moved_from (with_cr h cr) k → Answers (changing c l) 0 n
+  moved_done = head_done c true o l plain.tested zero k s h same shows n cr plain.bit 0 (sym plain.answer)
 
 -- ---- `printed`: the bytes bs were printed
 
@@ -111,6 +110,6 @@ module _ (bs : List ℕ) (o : ℕ) (l : List ℕ) (zero : 0 ≡ change_found tru
   unfolding lengths own rule first_of
   printed_fits = head_kept (PrintBytes bs) true o l (record { lengths = refl; own = λ q. own_none true o l zero }) zero k s h same shows
 
-  pub printed_done : (m n : List ℕ) (p : Pair) → Leaves (apply (PrintBytes bs) s) k m h → p ≡ next_pair (pair_of l)
-      → n ≡ changed_from p k (with_cr h (last_cr (head_of k).cr bs)) m → (c : Call) → Prints c o bs l → Answers (changing c l) 0 n
-  printed_done m n p left next e c prints = changed_done c o _ l prints.plain zero k s h same shows n p next m (rw (prints.same s) left) (rw (← same) e)
+  pub printed_done : (m n : List ℕ) → Leaves (apply (PrintBytes bs) s) k m h
+      → n ≡ changed_from k (with_cr h (last_cr (head_of k).cr bs)) m → (c : Call) → Prints c o bs l → Answers (changing c l) 0 n
+  printed_done m n left e c prints = changed_done c o _ l prints.plain zero k s h same shows n m (rw (prints.same s) left) (rw (← same) e)

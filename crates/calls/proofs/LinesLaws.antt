@@ -9,12 +9,10 @@ use borrow.Author.Tests.{leb-true}
 use Rattle.octets.specs.Answer.{refused, number_of, over, wrote, Writes}
 use Rattle.octets.specs.declared.answer.Refusal.{Refusal}
 use Rattle.octets.specs.Refusals.{first_of}
-use Rattle.grid.specs.Pair.{next_pair}
 use Rattle.grid.specs.Screen.{Screen, with_cr}
-use Rattle.grid.specs.Record.{screen_of, pair_of, Leaves}
+use Rattle.grid.specs.Record.{screen_of, Leaves}
 use Rattle.grid.specs.Facts.{HeadFits}
 use Rattle.grid.specs.declared.head.Head.{Head}
-use Rattle.grid.specs.declared.pair.Pair.{Pair}
 use Rattle.line.specs.Line.{MAX-LOGICAL, line_text}
 use Rattle.line.specs.Text.{Reads}
 use Rattle.line.specs.declared.text.Reading.{Reading}
@@ -48,14 +46,14 @@ module _ (l out : List ℕ) where
       take_fits = head_kept _ _ _ _ its_tests zero k s h same shows left.head
 
       -- t is the reading of the line under the cursor
-      pub take_done : (t : Reading) (v : ℕ) (r out' : List ℕ) (p : Pair) → Reads t (line_text s) → p ≡ next_pair (pair_of l) → r ≡ changed_from p k (with_cr h 0) m
+      pub take_done : (t : Reading) (v : ℕ) (r out' : List ℕ) → Reads t (line_text s) → r ≡ changed_from k (with_cr h 0) m
           → Writes (wrote (take t.len t.bytes) out) v out' → Submits (changing (TakeLogicalLine out) l) v r out'
       unfolding lengths apply submitted answer output rule wrote cr_left cr_after
-      take_done t v r out' p reads next e w =
+      take_done t v r out' reads e w =
           let text : take t.len t.bytes ≡ line_text (screen_of l) = reads.text ∙ ap line_text (shows ∙ ap screen_of same) in
           rw (outcome_done _ _ _ _ its_tests zero)
           (record {
             number = w.number ∙ ap length text;
-            left = rows_state _ _ _ _ its_tests zero k s h same shows r p 0 next refl m left e;
+            left = rows_state _ _ _ _ its_tests zero k s h same shows r 0 refl m left e;
             output = w.left ∙ ap (λ (x : List ℕ). over x out) text;
           })

@@ -14,11 +14,9 @@ use borrow.Author.Tests.{leb-true}
 use Rattle.octets.specs.Answer.{refused, number_of}
 use Rattle.octets.specs.declared.answer.Refusal.{Refusal}
 use Rattle.octets.specs.Refusals.{first_of}
-use Rattle.grid.specs.Pair.{next_pair}
 use Rattle.grid.specs.Screen.{Screen, with_cr}
-use Rattle.grid.specs.Record.{head_of, screen_of, pair_of}
+use Rattle.grid.specs.Record.{head_of, screen_of}
 use Rattle.grid.specs.Facts.{HeadFits}
-use Rattle.grid.specs.declared.pair.Pair.{Pair}
 use Rattle.editor.specs.Call.{PrintWaiting, rule, lengths, own, answer, last_cr, cr_left, cr_after}
 use Rattle.editor.specs.Waiting.{taken, scrolls_of, waited}
 use Rattle.editor.specs.declared.print.Run.{Run}
@@ -67,13 +65,13 @@ module _ (bs l : List ℕ) (rows o : ℕ) (io : o ≡ first_of ((3, leb rows 100
       answer_fits = record { fits = omega (arith, short, few, done.most) }
 
       -- n is what `finish_print` has left, of the bytes taken
-      pub waited_done : (n : List ℕ) (p : Pair) → p ≡ next_pair (pair_of l) → n ≡ changed_from p k (with_cr w.head (last_cr (head_of k).cr (take w.taken bs))) m
+      pub waited_done : (n : List ℕ) → n ≡ changed_from k (with_cr w.head (last_cr (head_of k).cr (take w.taken bs))) m
           → Answers (changing (PrintWaiting bs rows) l) (w.taken + 65536 * w.scrolls) n
       unfolding answer waited rule cr_left cr_after
-      waited_done n p next e =
+      waited_done n e =
           let at : s ≡ screen_of l = shows ∙ ap screen_of same in
           let front : take w.taken bs ≡ taken (screen_of l) rows bs = done.front ∙ ap (λ (x : Screen). taken x rows bs) at in
           let count : w.taken ≡ length (taken (screen_of l) rows bs) = sym (length-take-le w.taken bs done.to) ∙ ap length front in
           let scrolls : w.scrolls ≡ scrolls_of (screen_of l) (taken (screen_of l) rows bs) = done.scrolled ∙ ap (λ (x : Screen). scrolls_of x (taken x rows bs)) at in
-          rows_done _ _ _ _ its_tests zero k s w.head same shows n p (last_cr (head_of l).cr (taken (screen_of l) rows bs)) next refl (w.taken + 65536 * w.scrolls)
+          rows_done _ _ _ _ its_tests zero k s w.head same shows n (last_cr (head_of l).cr (taken (screen_of l) rows bs)) refl (w.taken + 65536 * w.scrolls)
           (ap₂ (λ (x y : ℕ). x + 65536 * y) count scrolls) m done.leaves (rw (← front, ← same) e)

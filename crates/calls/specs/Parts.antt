@@ -3,11 +3,11 @@
 use Rattle.std.specs.Prelude.{ℕ, ◌≡◌, Bool, true, List, ◌++◌, drop, length}
 use Rattle.octets.specs.Refusals.{first_of, or_else}
 use Rattle.grid.specs.Layout.{SIZE, FLAGS}
+use Rattle.grid.specs.Pair.{next_pair}
 use Rattle.grid.specs.Screen.{Screen, touched_rows}
-use Rattle.grid.specs.Record.{rows_of, head_of, screen_of, front_bytes}
+use Rattle.grid.specs.Record.{rows_of, head_of, screen_of, pair_of, front_bytes}
 use Rattle.grid.specs.Refusals.{record_tests}
 use Rattle.grid.specs.declared.head.Head.{Head}
-use Rattle.grid.specs.declared.pair.Pair.{Pair}
 use Rattle.editor.specs.Call.{Call, PrintBytes, lengths, own, apply, answer, last_cr, cr_after}
 use Rattle.editor.specs.Outcome.{serial_tests}
 
@@ -34,10 +34,10 @@ pub record Prints (c : Call) (o : ℕ) (bs l : List ℕ) : Type 0 where
 
 -- ---- what the end of a call leaves, where its work has made l of the record old
 
--- the head h, the pair next, and touched the rows in which l differs from old
-unfoldable pub changed_from : Pair → List ℕ → Head → List ℕ → List ℕ
-changed_from next old h l = front_bytes h (record { pair = next; touched = touched_rows (rows_of old) (rows_of l) }) ++ drop FLAGS l
+-- the head h, the next serial, and touched the rows in which l differs from old
+unfoldable pub changed_from : List ℕ → Head → List ℕ → List ℕ
+changed_from old h l = front_bytes h (record { pair = next_pair (pair_of old); touched = touched_rows (rows_of old) (rows_of l) }) ++ drop FLAGS l
 
 -- the same of a call that changes no row
-unfoldable pub moved_from : Pair → Head → List ℕ → List ℕ
-moved_from next h l = front_bytes h (record { pair = next; touched = 0 }) ++ drop FLAGS l
+unfoldable pub moved_from : Head → List ℕ → List ℕ
+moved_from h l = front_bytes h (record { pair = next_pair (pair_of l); touched = 0 }) ++ drop FLAGS l

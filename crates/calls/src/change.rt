@@ -29,10 +29,10 @@ pub(crate) fn moved<F: FnOnce(&Screen) -> Head>(
 {
     // Kept so: five functions begin with these two lines. One function of them would lend an array out of a slice behind a `Result`, which no clause tells yet
     // (docs/BORROWS.md of rt, `LendsIfOk`).
-    let next = accepted(rec, true, own)?;
+    accepted(rec, true, own)?;
     let rec = rec.as_mut_array().unwrap();
     let h = work(&Screen::of(rec));
-    finish_move(rec, h, next);
+    finish_move(rec, h);
     Ok(())
 }
 
@@ -48,10 +48,10 @@ pub(crate) fn changed<F: FnOnce(&mut Record, &Screen) -> Head>(
     requires does { (r : _) (s : _) (h : Head) (left : _) → F.post work r s h left → Leaves (apply c s.now) r.now left.now h }
     ensures { Answers (changing c rec.old) (done result) rec.new }
 {
-    let next = accepted(rec, true, own)?;
+    accepted(rec, true, own)?;
     let rec = rec.as_mut_array().unwrap();
     let old = *rec;
     let h = work(rec, &Screen::of(&old));
-    finish(rec, &old, h, next);
+    finish(rec, &old, h);
     Ok(())
 }

@@ -29,13 +29,13 @@ pub fn ctrl_enter(rec: &mut [u8]) -> Result<(), Refusal>
 pub fn take_logical_line(rec: &mut [u8], out: &mut [u8]) -> Result<u32, Refusal>
     ensures { Submits (changing (TakeLogicalLine out.old) rec.old) (answered result) rec.new out.new }
 {
-    let next = accepted(rec, out.len() >= MAX_LOGICAL, Ok(()))?;
+    accepted(rec, out.len() >= MAX_LOGICAL, Ok(()))?;
     let rec = rec.as_mut_array().unwrap();
     let copy = *rec;
     let old = Screen::of(&copy);
     let text = lines::line_text(&old);
     let h = lines::take_logical_line(rec, &old);
-    finish(rec, &copy, h, next);
+    finish(rec, &copy, h);
     Ok(put_reading(out, text))
 }
 

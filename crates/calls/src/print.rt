@@ -21,11 +21,11 @@ const LONGEST_INPUT: usize = 65535;
 fn printed(rec: &mut [u8], own: Result<(), Refusal>, bytes: &[u8]) -> Result<(), Refusal>
     ensures { (c : Call) → Prints c (found own) bytes.now rec.old → Answers (changing c rec.old) (done result) rec.new }
 {
-    let next = accepted(rec, true, own)?;
+    accepted(rec, true, own)?;
     let rec = rec.as_mut_array().unwrap();
     let old = *rec;
     let h = print::print_bytes(rec, &Screen::of(&old), bytes);
-    finish_print(rec, &old, h, bytes, next);
+    finish_print(rec, &old, h, bytes);
     Ok(())
 }
 
@@ -47,10 +47,10 @@ pub fn print_waiting(rec: &mut [u8], bytes: &[u8], rows: u32) -> Result<u32, Ref
     ensures { Answers (changing (PrintWaiting bytes.now rows) rec.old) (answered result) rec.new }
 {
     let own = can_wait(rows <= MOST_ROWS, bytes.len() <= LONGEST_INPUT);
-    let next = accepted(rec, true, own)?;
+    accepted(rec, true, own)?;
     let rec = rec.as_mut_array().unwrap();
     let old = *rec;
     let w = waiting::print_waiting(rec, &Screen::of(&old), bytes, rows as usize);
-    finish_print(rec, &old, w.head, &bytes[..w.taken], next);
+    finish_print(rec, &old, w.head, &bytes[..w.taken]);
     Ok(w.taken as u32 + 65536 * w.scrolls as u32)
 }

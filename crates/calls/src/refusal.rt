@@ -4,31 +4,33 @@ ghost use Rattle.octets.specs.Answer.{found};
 ghost use Rattle.octets.specs.Refusals.{first_of};
 ghost use Rattle.grid.specs.Facts.{Valid};
 ghost use Rattle.grid.specs.Layout.{SIZE};
-ghost use Rattle.grid.specs.Pair.{next_pair};
-ghost use Rattle.grid.specs.Record.{pair_of, screen_of};
+ghost use Rattle.grid.specs.Record.{serial_of, screen_of};
 ghost use Rattle.editor.specs.Call.{PrintChecked, limited_ok, own};
+ghost use Rattle.editor.specs.Outcome.{LAST-SERIAL};
 ghost use Rattle.calls.specs.Parts.{change_found};
 
 use editor::print;
 use grid::head;
-use grid::pair::Pair;
 use grid::refusal::{in_range, record};
 use line::text::MAX_LOGICAL;
 use octets::answer::Refusal;
 
-// The pair that a changing call will leave, unless it is refused: for the record's sake, by what its own refusals find, own, or by the last serial, which has no
-// next. lengths: every other lent slice has a length that is taken.
-#[tactic(auto, using(crate::proofs::RefusalLaws::record_refused, crate::proofs::RefusalLaws::own_refused, crate::proofs::RefusalLaws::last_refused, crate::proofs::RefusalLaws::not_refused), unfolding(grid::specs::Pair::next_pair))]
-pub(crate) fn accepted(rec: &[u8], lengths: bool, own: Result<(), Refusal>) -> Result<Pair, Refusal>
+const LAST_SERIAL: u32 = 4294967295;
+
+// Whether a changing call is refused: for the record's sake, by what its own refusals find, own, or by the last serial, which has no next. lengths: every other
+// lent slice has a length that is taken.
+#[tactic(auto, using(crate::proofs::RefusalLaws::record_refused, crate::proofs::RefusalLaws::own_refused, crate::proofs::RefusalLaws::last_refused, crate::proofs::RefusalLaws::not_refused))]
+pub(crate) fn accepted(rec: &[u8], lengths: bool, own: Result<(), Refusal>) -> Result<(), Refusal>
     ensures refusal { found result ≡ change_found lengths (found own) rec.now }
     ensures valid { IfOk result (λ _. Valid rec.now) }
-    ensures next { IfOk result (λ p. p ≡ next_pair (pair_of rec.now)) }
+    ensures next { IfOk result (λ _. serial_of rec.now ≡ LAST-SERIAL → ⊥) }
 {
     let rec = record(rec, lengths)?;
     own?;
-    let was = head::read_pair(rec);
-    let serial = was.serial.checked_add(1).ok_or(Refusal::SpentSerial)?;
-    Ok(Pair { serial, ..was })
+    if head::read_pair(rec).serial == LAST_SERIAL {
+        return Err(Refusal::SpentSerial);
+    }
+    Ok(())
 }
 
 // The checked print's own refusal, of a slice that has a record's length.

@@ -4,16 +4,18 @@ use Rattle.calls.proofs.RefusalLaws.{own_none}
 use Rattle.calls.proofs.Changing.{call_refused, head_kept, changed_done}
 use Rattle.calls.proofs.change.changed.Goals as goal
 
-pub returns-in_err-next : goal.returns-in_err-next
-returns-in_err-next g c = search (rules, call_refused)
+pub returns-in_err-accepted : goal.returns-in_err-accepted
+returns-in_err-accepted g c = search (rules, call_refused)
 
 pub work-h-requires : goal.work-h-requires
-work-h-requires g c = c.requires.1.1.0 _ _ (own_none _ _ _ c.in_ok-next.ensures.refusal) (search rules)
+work-h-requires g c = c.requires.1.1.0 _ _ (own_none _ _ _ c.in_ok-accepted.ensures.refusal) (search rules)
 
 pub finish-requires : goal.finish-requires
-finish-requires g c = head_kept _ _ _ _ c.requires.1.0.tested c.in_ok-next.ensures.refusal _ _ _ (search rules) c.of.ensures (c.requires.1.1.1 _ _ _ _ c.work-h.ensures).head
+finish-requires g c =
+    let head = (c.requires.1.1.1 _ _ _ _ c.work-h.ensures).head in
+    (head_kept _ _ _ _ c.requires.1.0.tested c.in_ok-accepted.ensures.refusal _ _ _ (search rules) c.of.ensures head, search rules)
 
 pub returns : goal.returns
 returns g c =
-    changed_done _ _ _ _ c.requires.1.0 c.in_ok-next.ensures.refusal _ _ _ (search rules) c.of.ensures _ _ c.in_ok-next.ensures.next
-    _ (c.requires.1.1.1 _ _ _ _ c.work-h.ensures) c.finish.ensures
+    changed_done _ _ _ _ c.requires.1.0 c.in_ok-accepted.ensures.refusal _ _ _ (search rules) c.of.ensures
+    _ _ (c.requires.1.1.1 _ _ _ _ c.work-h.ensures) c.finish.ensures

@@ -4,16 +4,18 @@ use Rattle.calls.proofs.RefusalLaws.{own_none}
 use Rattle.calls.proofs.Changing.{call_refused, head_kept, moved_done}
 use Rattle.calls.proofs.change.moved.Goals as goal
 
-pub returns-in_err-next : goal.returns-in_err-next
-returns-in_err-next g c = search (rules, call_refused)
+pub returns-in_err-accepted : goal.returns-in_err-accepted
+returns-in_err-accepted g c = search (rules, call_refused)
 
 pub work-h-requires : goal.work-h-requires
-work-h-requires g c = c.requires.1.1.0 _ (own_none _ _ _ c.in_ok-next.ensures.refusal)
+work-h-requires g c = c.requires.1.1.0 _ (own_none _ _ _ c.in_ok-accepted.ensures.refusal)
 
 pub finish_move-requires : goal.finish_move-requires
-finish_move-requires g c = head_kept _ _ _ _ c.requires.1.0.tested c.in_ok-next.ensures.refusal _ _ _ (search rules) c.of.ensures (c.requires.1.1.1 _ _ c.work-h.ensures).head
+finish_move-requires g c =
+    let head = (c.requires.1.1.1 _ _ c.work-h.ensures).head in
+    (head_kept _ _ _ _ c.requires.1.0.tested c.in_ok-accepted.ensures.refusal _ _ _ (search rules) c.of.ensures head, search rules)
 
 pub returns : goal.returns
 returns g c =
-    moved_done _ _ _ _ c.requires.1.0 c.in_ok-next.ensures.refusal _ _ _ (search rules) c.of.ensures _ _ c.in_ok-next.ensures.next
-    (c.requires.1.1.1 _ _ c.work-h.ensures) c.finish_move.ensures
+    moved_done _ _ _ _ c.requires.1.0 c.in_ok-accepted.ensures.refusal _ _ _ (search rules) c.of.ensures
+    _ (c.requires.1.1.1 _ _ c.work-h.ensures) c.finish_move.ensures
