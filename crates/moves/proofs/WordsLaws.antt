@@ -62,14 +62,15 @@ pub index : (k : ℕ) → Index k
 index k = ([], _, refl)
 
 module _ (s : Screen) where
-  pub back_found : (at i : ℕ) → i ≤ at → (0 < i → word_at s i ≡ true) → ((k : ℕ) → Index k → i < k → k ≤ at → word_at s k ≡ false)
+  pub back_found : (at i : ℕ) → i ≤ at → (0 < i → word_at s (i - 1 + 1) ≡ true) → ((k : ℕ) → Index k → i ≤ k → k < at → word_at s (k + 1) ≡ false)
       → i ≡ back_to_word s at
   unfolding back_to_word
   back_found zero i h stop none = omega arith
   back_found (suc n) i h stop none =
+      let last : n + 1 ≡ suc n = omega arith in
       let on : i ≤ n → i ≡ back_to_word s n = λ k. back_found n i k stop (λ j x a b. none j x a (omega arith)) in
-      let no : i ≤ n → word_at s (suc n) ≡ false = λ k. none (suc n) (index (suc n)) (omega arith) (omega arith) in
-      let yes : i ≡ suc n → word_at s (suc n) ≡ true = λ e. ap (word_at s) (sym e) ∙ stop (omega (arith, e)) in
+      let no : i ≤ n → word_at s (suc n) ≡ false = λ k. ap (word_at s) (sym last) ∙ none n (index n) k (omega arith) in
+      let yes : i ≡ suc n → word_at s (suc n) ≡ true = λ e. ap (word_at s) (omega (arith, e)) ∙ stop (omega (arith, e)) in
       grind (arith, on, no, yes)
 
   pub start_found : (at i : ℕ) → i ≤ at → (0 < i → word_at s (i - 1) ≡ false) → ((k : ℕ) → Index k → i ≤ k → k < at → word_at s k ≡ true)

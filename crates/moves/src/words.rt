@@ -63,7 +63,10 @@ fn back_to_word(s: &Screen, at: usize) -> usize
     requires { at < 25 * s.now.head.width }
     ensures { result ≡ back_to_word s.now at }
 {
-    (1..=at).rev().find(|&i| word_at(s, i)).unwrap_or(0)
+    (0..at)
+        .rev()
+        .find(|&i| word_at(s, i + 1))
+        .map_or(0, |i| i + 1)
 }
 
 // Back from the cell at to that word's start.
