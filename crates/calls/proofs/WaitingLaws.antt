@@ -22,10 +22,15 @@ use Rattle.editor.specs.Waiting.{taken, scrolls_of, waited}
 use Rattle.editor.specs.declared.print.Run.{Run}
 use Rattle.editor.specs.Given.{Waits}
 use Rattle.editor.specs.Outcome.{changing}
+use Rattle.grid.proofs.RefusalLaws.{range_tested}
 use Rattle.calls.specs.Answers.{Answers}
 use Rattle.calls.specs.Parts.{change_found, changed_from, Tested}
 use Rattle.calls.proofs.Changing.{call_refused, head_kept, rows_done}
 use Rattle.calls.proofs.RefusalLaws.{own_none}
+
+-- n is what `in_range` has found
+pub is_in_range : (few : Bool) (n : ℕ) → n ≡ first_of ((3, few) ∷ []) → n ≡ 0 → few ≡ true
+is_in_range few n is none = range_tested few (sym none ∙ is)
 
 module _ (bs l : List ℕ) (rows o : ℕ) (io : o ≡ first_of ((3, leb rows 1000) ∷ (7, leb (length bs) 65535) ∷ [])) where
   its_tests : Tested (PrintWaiting bs rows) true o l
@@ -40,9 +45,9 @@ module _ (bs l : List ℕ) (rows o : ℕ) (io : o ≡ first_of ((3, leb rows 100
     passed = go (leb rows 1000) (leb (length bs) 65535) (sym io ∙ own_none _ _ _ zero)
       where
         go : (a b : Bool) → first_of ((3, a) ∷ (7, b) ∷ []) ≡ 0 → (a ≡ true) × (b ≡ true)
-        go true true e = (refl, refl)
+        go a true e = (is_in_range a (first_of ((3, a) ∷ (7, true) ∷ [])) (unfold first_of in refl) e, refl)
         go true false e = absurd (unfold first_of in omega (arith, e))
-        go false b e = absurd (unfold first_of in omega (arith, e))
+        go false false e = absurd (unfold first_of in omega (arith, e))
 
     -- printing was lent the record k, to change too, and the screen s, to read from; it has left m
     module _ (k m : List ℕ) (s : Screen) (w : Run) (same : k ≡ l) (shows : s ≡ screen_of k) (done : Waits bs rows s k m w) where

@@ -1,23 +1,28 @@
--- Tab: spaces typed one after the other leave what the rule says; and the moves where insert is off.
+-- Tab: a front written over rows leaves a valid record; spaces typed one after the other leave what the rule says; and the moves where insert is off.
 -- Assumes nothing.
 use Prim.Native.Nat.{ℕ, suc, ◌+◌, ◌-◌, ◌*◌, ◌/◌, ◌≤◌, ◌<◌}
 use mathlib.Core.Path.{◌≡◌, refl, sym, ap, ◌∙◌, subst}
 use mathlib.Core.Bool.{Bool, true, false, ◌&&◌}
-use mathlib.Core.List.{List}
+use mathlib.Core.List.{List, ◌++◌}
 use native.Mathlib.Omega.{arith}
 use lib.Dec.{eqb}
-use lib.ListN.{length, take}
+use lib.ListN.{length, take, drop, length-drop}
 use borrow.Author.Tests.{eq-eqb, ne_eqb}
 use Rattle.std.specs.Prelude.{if◌then◌else◌}
-use Rattle.grid.specs.Layout.{SIZE, FLAGS}
+use Rattle.grid.specs.Layout.{SIZE, FLAGS, MASKS}
 use Rattle.grid.specs.Screen.{Screen, with_cursor, move_to}
 use Rattle.values.specs.Cursor.{at}
-use Rattle.grid.specs.Record.{rows_of, screen_with, Leaves}
-use Rattle.grid.specs.Facts.{ScreenFacts, Known}
+use Rattle.grid.specs.Record.{rows_of, head_at, head_of, screen_of, screen_with, touched_of, front_bytes, rows_bytes, Leaves}
+use Rattle.grid.specs.Facts.{HeadFacts, RowsFacts, ScreenFacts, Valid, Known}
 use Rattle.values.specs.declared.cursor.Cursor.{Cursor}
 use Rattle.grid.specs.declared.head.Head.{Head}
+use Rattle.grid.specs.declared.head.Stamp.{Stamp}
 use Rattle.std.proofs.lemmas.Bool.{cond-true as pick, cond-false as skip}
 use Rattle.octets.specs.Refusals.{all_pass}
+use Rattle.octets.proofs.NumberLaws.{whole4}
+use Rattle.grid.proofs.Bytes.{rows_back}
+use Rattle.grid.proofs.HeadLaws.{head_whole}
+use Rattle.grid.proofs.Record.{rows_bytes_of}
 use Rattle.grid.proofs.ScreenLaws.{head_seen, rows_seen}
 use Rattle.line.specs.Line.{MAX-LOGICAL}
 use Rattle.editor.specs.Typing.{type_char}
@@ -25,6 +30,40 @@ use Rattle.editor.specs.Tab.{same_cursor, type_spaces, next_stop, tab, tabbed}
 use Rattle.editor.specs.Call.{TypeChar, TypeLimited, Tab, in_range, rule, apply, own}
 use Rattle.editor.proofs.KeptCall.{apply_facts}
 use Rattle.editor.proofs.TypingLaws.{still}
+
+-- ---- a front written over rows is read back
+
+module _ (h : Head) (s : Stamp) (m n : List ℕ) (f : HeadFacts h) (rows : RowsFacts h.width 25 (rows_of m)) (len : length m ≡ SIZE)
+    (is : n ≡ front_bytes h s ++ drop FLAGS m) where
+  head_back : (rest : List ℕ) → head_of (front_bytes h s ++ rest) ≡ h
+  unfolding head_of head_at front_bytes
+  head_back rest = head_whole h f
+
+  whole : n ≡ front_bytes h s ++ rows_bytes (rows_of m)
+  whole = is ∙ ap (λ (x : List ℕ). front_bytes h s ++ x) (sym (rows_bytes_of m len))
+
+  rows_are : rows_of n ≡ rows_of m
+  unfolding front_bytes
+  rows_are = ap rows_of whole ∙ rows_back (front_bytes h s) h.width (rows_of m) refl rows
+
+  pub screen_back : screen_of n ≡ record { head = h; rows = rows_of m }
+  screen_back =
+      let e : head_of n ≡ h = ap head_of is ∙ head_back (drop FLAGS m) in
+      λ i. record { head = e i; rows = rows_are i }
+
+  pub valid_back : s.touched < MASKS → Valid n
+  unfolding front_bytes touched_of
+  valid_back t =
+      let w = whole4 s.touched (omega arith) in
+      rw is
+      (record {
+        size = simp length-drop (omega arith);
+        length_high = refl;
+        length_low = refl;
+        version = refl;
+        touched = omega arith;
+        screen = subst ScreenFacts (sym (ap screen_of (sym is) ∙ screen_back)) (record { head = f; rows = rows });
+      })
 
 -- ---- type_spaces: of n spaces on the screen s, i are typed, which have made the record l of l₀ and left the head h; what is left to type leads to the answer
 

@@ -3,11 +3,13 @@
 use Prim.Native.Nat.{ℕ, zero, suc, ◌+◌, ◌-◌, ◌*◌, ◌≤◌, ◌<◌, min}
 use mathlib.Core.Path.{◌≡◌, sym, ap, ap₂, ◌∙◌, subst}
 use mathlib.Core.List.{List, [], ◌∷◌, ◌++◌}
-use native.Mathlib.Nat.{not-suc-le-zero, le_of_suc-le-suc, mul-le-mul_right}
+use native.Mathlib.Nat.{not-suc-le-zero, le_of_suc-le-suc, mul-le-mul, mul-le-mul_right, lt_of_mul-lt-mul_right}
 use native.Mathlib.Decide.{dec_lt}
 use native.Mathlib.Omega.{arith}
 use lib.ListN.{length, get_or, take, drop, replicate, length-append, length-drop, length-take}
 use lib.Seq.{take-nil, take-add, take-take, take-append-le, take-append-add, drop-append-add, drop-cons, get_or-drop, length-take-le}
+use mir.Syntax.{w64}
+use mir.Val.{Fits}
 use Rattle.grid.specs.Screen.{Row, Screen, no_row, row_at, trim, is_space}
 use Rattle.octets.specs.Part.{write}
 use Rattle.grid.specs.Record.{row_of, screen_with}
@@ -153,6 +155,22 @@ pub rows_more : (start end w : ℕ) → start ≤ end → (end + 1 - start) * w 
 rows_more start end w h =
     let q : end + 1 - start ≡ suc (end - start) = omega arith in
     rw q (omega arith)
+
+-- where more than a row of characters comes behind a row, another row of the screen follows
+pub next_row_inside : (start w r i : ℕ) → start ≤ r → i ≡ (r - start) * w → (n : ℕ) → i + w < n → n ≤ (25 - start) * w → r + 1 < 25
+next_row_inside start w r i from is n h h' =
+    let q : suc (r - start) * w < (25 - start) * w = omega arith in
+    omega (arith, lt_of_mul-lt-mul_right w q)
+
+-- the sums of the code fit
+rows_most : (x w : ℕ) → x ≤ 25 → w ≤ 80 → x * w ≤ 2000
+rows_most x w h k = mul-le-mul {n₂ = 25} {m₂ = 80} h k
+
+pub rows_fit : (x w : ℕ) → x ≤ 25 → w ≤ 80 → Fits w64 (x * w)
+rows_fit x w h k = record { fits = omega (arith, rows_most x w h k) }
+
+pub chars_fit : (x w y : ℕ) → x ≤ 25 → w ≤ 80 → y ≤ 80 → Fits w64 (x * w + y)
+chars_fit x w y h k m = record { fits = omega (arith, rows_most x w h k) }
 
 -- a row's text is no longer than the width
 pub trim_to : (w : ℕ) (cs : List ℕ) → length (trim (take w cs)) ≤ w

@@ -18,7 +18,7 @@ fn column_on(row: usize, end: usize, col: usize) -> usize
 }
 
 // The characters and the index of a line.
-#[tactic(auto, using(crate::proofs::CharsLaws::rows_more))]
+#[tactic(auto, using(crate::proofs::CharsLaws::rows_more, crate::proofs::CharsLaws::rows_fit, crate::proofs::CharsLaws::chars_fit))]
 pub fn content_and_cursor(line: &Line) -> Text
     ensures { Holds result (content line.now) (index line.now) }
 {

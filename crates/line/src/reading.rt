@@ -14,7 +14,7 @@ use grid::screen::Screen;
 use octets::part;
 
 // The reading of a span's rows.
-#[tactic(auto, using(crate::proofs::CharsLaws::rows_more))]
+#[tactic(auto, using(crate::proofs::CharsLaws::rows_more, crate::proofs::CharsLaws::rows_fit, crate::proofs::CharsLaws::chars_fit))]
 pub fn read_stripped(s: &Screen, span: Span) -> Reading
     ensures { Reads result (reading s.now span.start span.end) }
 {

@@ -18,7 +18,7 @@ use Rattle.grid.specs.declared.head.Head.{Head}
 use Rattle.octets.proofs.Bools.{either}
 use Rattle.grid.proofs.ScreenLaws.{head_seen, row_seen}
 use Rattle.moves.specs.Cells.{Flat, Cells}
-use Rattle.editor.specs.Words.{is_word, word_at, back_to_word, word_start, past_word, past_gap}
+use Rattle.editor.specs.Words.{is_word, word_at, cell_of, back_to_word, word_start, past_word, past_gap}
 
 -- ---- `is_word`
 
@@ -123,7 +123,11 @@ module _ (s : Screen) where
   past_word_le zero i = omega arith
   past_word_le (suc k) i = either (λ (n : ℕ). n ≤ i + suc k) (word_at s i) (past_word s k (suc i)) i (omega (arith, past_word_le k (suc i))) (omega arith)
 
-  -- ---- `word_left`, `word_right`: where a search stops, the next one begins
+  -- ---- `word_left`, `word_right`: the searches begin at the cell under the cursor, and where one stops, the next one begins
+
+  pub cell_is : (i : ℕ) → Flat s.head i → i ≡ cell_of s
+  unfolding cell_of
+  cell_is i f = f.is
 
   pub left_inside : (i j : ℕ) → Flat s.head i → j ≡ back_to_word s (i - 1) → j < 25 * s.head.width
   left_inside i j f e = omega (arith, back_le (i - 1))

@@ -93,7 +93,7 @@ fn past_gap(s: &Screen, max: usize, at: usize) -> usize
     (at..max).find(|&i| word_at(s, i)).unwrap_or(max)
 }
 
-#[tactic(auto, using(crate::proofs::WordsLaws::left_inside), unfolding(editor::specs::Call::apply, editor::specs::Call::rule, editor::specs::Words::word_left, editor::specs::Words::cell_of, grid::specs::Screen::move_to))]
+#[tactic(auto, using(crate::proofs::WordsLaws::left_inside, crate::proofs::WordsLaws::cell_is), unfolding(editor::specs::Call::apply, editor::specs::Call::rule, editor::specs::Words::word_left, grid::specs::Screen::move_to))]
 pub fn word_left(s: &Screen) -> Head
     ensures { Moves (apply WordLeft s.now) s.now result }
 {
@@ -105,7 +105,7 @@ pub fn word_left(s: &Screen) -> Head
     set_flat(s, word_start(s, j))
 }
 
-#[tactic(auto, using(crate::proofs::WordsLaws::right_inside), unfolding(editor::specs::Call::apply, editor::specs::Call::rule, editor::specs::Words::word_right, editor::specs::Words::cell_of, grid::specs::Screen::move_to))]
+#[tactic(auto, using(crate::proofs::WordsLaws::right_inside, crate::proofs::WordsLaws::cell_is), unfolding(editor::specs::Call::apply, editor::specs::Call::rule, editor::specs::Words::word_right, grid::specs::Screen::move_to))]
 pub fn word_right(s: &Screen) -> Head
     ensures { Moves (apply WordRight s.now) s.now result }
 {

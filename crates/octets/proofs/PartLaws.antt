@@ -114,12 +114,16 @@ write_append (x ∷ l) zero (y ∷ s) t =
     ap (λ (i : ℕ). write (y ∷ write l zero s) i t) (zero-add (suc (length s)) ∙ ap suc (sym (zero-add (length s))))
     ∙ ap (λ (r : List ℕ). y ∷ r) (write_append l zero s t)
 
+-- a run, and a store in front of it
+pub cons_write : (l : List ℕ) (a v : ℕ) (s : List ℕ) → set (write l (a + 1) s) a v ≡ write l a (v ∷ s)
+unfolding write
+cons_write [] a v s = refl
+cons_write (x ∷ l) zero v s = refl
+cons_write (x ∷ l) (suc a) v s = ap (λ (i : ℕ). set (write (x ∷ l) i s) (suc a) v) (suc-add a 1) ∙ ap (λ (r : List ℕ). x ∷ r) (cons_write l a v s)
+
 -- a store is a run of one, and so is one more store behind a run
 pub set_write : (l : List ℕ) (a v : ℕ) → set l a v ≡ write l a (v ∷ [])
-unfolding write
-set_write [] a v = refl
-set_write (x ∷ l) zero v = ap (λ (r : List ℕ). v ∷ r) (sym (write_none l zero))
-set_write (x ∷ l) (suc a) v = ap (λ (r : List ℕ). x ∷ r) (set_write l a v)
+set_write l a v = ap (λ (m : List ℕ). set m a v) (sym (write_none l (a + 1))) ∙ cons_write l a v []
 
 pub write_more : (l : List ℕ) (a : ℕ) (s : List ℕ) (v : ℕ) → set (write l a s) (a + length s) v ≡ write l a (s ++ (v ∷ []))
 write_more l a s v = set_write (write l a s) (a + length s) v ∙ write_append l a s (v ∷ [])
