@@ -7,6 +7,7 @@ ghost use Rattle.report.specs.Kind.{kind_byte, rows_at, report_length};
 ghost use Rattle.report.specs.Report.{report_front, read_front};
 ghost use Rattle.report.specs.Parts.{Fronts};
 
+use crate::kind;
 use crate::kind::Kind;
 use crate::layout::{HEAD, KIND, MASK, REPORT_PAIR, REPORT_VERSION, ROW_SIZE, ROWS};
 use grid::head::Head;
@@ -21,6 +22,20 @@ pub struct Front {
     pub pair: Pair,
     pub mask: u32,
     pub head: Head,
+}
+
+// The front of a slice, whatever the byte of the kind; `Front::read` tells whether it is the byte of one.
+#[tactic(auto, unfolding(crate::specs::Report::read_front))]
+pub fn read_front(b: &[u8]) -> Front
+    requires { ROWS ≤ length b.now }
+    ensures { result ≡ read_front b.now }
+{
+    Front {
+        kind: kind::kind_of(b[KIND]),
+        pair: pair::pair_at(b, REPORT_PAIR),
+        mask: number::four_at(b, MASK),
+        head: head::head_at(b, HEAD),
+    }
 }
 
 impl Front {
@@ -43,15 +58,10 @@ impl Front {
     pub fn read(b: &[u8]) -> Option<Front>
         ensures { SomeIff result ((ROWS ≤ length b.now) × (get_or b.now KIND 0 ≡ kind_byte (read_front b.now).kind)) (read_front b.now) }
     {
-        if b.len() < ROWS {
+        if b.len() < ROWS || Kind::try_from(b[KIND]).is_err() {
             return None;
         }
-        Some(Front {
-            kind: Kind::try_from(b[KIND]).ok()?,
-            pair: pair::pair_at(b, REPORT_PAIR),
-            mask: number::four_at(b, MASK),
-            head: head::head_at(b, HEAD),
-        })
+        Some(read_front(b))
     }
 
     // How many rows follow it: one for each in the mask.

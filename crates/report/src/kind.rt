@@ -15,6 +15,13 @@ pub enum Kind {
     Full,
 }
 
+// The kind of a byte; a byte of none is taken for a step's, and the byte of the kind then tells that it is not.
+pub fn kind_of(byte: u8) -> Kind
+    ensures { result ≡ kind_of byte }
+{
+    if byte == FULL { Kind::Full } else { Kind::Step }
+}
+
 // A byte that is the byte of no kind.
 #[derive(Clone, Copy, PartialEq, Eq)]
 pub struct NoKind;
@@ -25,10 +32,11 @@ impl TryFrom<u8> for Kind {
     ghost try_from_gives = { λ byte r. OkIff r (byte ≡ kind_byte (kind_of byte)) (kind_of byte) };
 
     fn try_from(byte: u8) -> Result<Kind, NoKind> {
-        match byte {
-            STEP => Ok(Kind::Step),
-            FULL => Ok(Kind::Full),
-            _ => Err(NoKind),
+        let kind = kind_of(byte);
+        if u8::from(kind) == byte {
+            Ok(kind)
+        } else {
+            Err(NoKind)
         }
     }
 }
