@@ -3,7 +3,7 @@
 -- Assumes nothing.
 use Prim.Native.Nat.{ℕ, ◌+◌, ◌-◌, ◌≤◌, ◌<◌}
 use mathlib.Core.Path.{◌≡◌, refl, sym, ap, ap₂, ◌∙◌, subst}
-use mathlib.Core.Bool.{Bool, true, false, not}
+use mathlib.Core.Bool.{Bool, true, false, not, ◌&&◌}
 use mathlib.Core.Bool
 use mathlib.Core.List.{List, [], ◌∷◌}
 use mathlib.Core.Logic.{◌≢◌}
@@ -16,11 +16,12 @@ use lib.Seq.{length-take-le}
 use borrow.Author.Tests.{not-true, not-false, ltb-true, lt-ltb, le-ltb, eq-eqb, ne_eqb}
 use Rattle.std.specs.Prelude.{if◌then◌else◌}
 use Rattle.grid.specs.Layout.{SIZE, FLAGS}
-use Rattle.grid.specs.Screen.{Row, Screen, with_cursor, with_rows, move_to, no_row, row_at, flag_row, set_flag, put_cell, scrolled, blank_row, editable, printable, is_empty, trim}
+use Rattle.grid.specs.Screen.{Row, Screen, with_cursor, with_rows, move_to, no_row, row_at, flag_row, set_flag, put_cell, scrolled, blank_row, editable, printable, is_empty, is_space, trim, trim_by}
 use Rattle.values.specs.Cursor.{at}
 use Rattle.grid.specs.Record.{row_of, rows_of, screen_with, Becomes}
 use Rattle.grid.specs.declared.head.Head.{Head}
 use Rattle.std.proofs.lemmas.Bool.{cond-true as pick, cond-false as skip}
+use Rattle.octets.specs.Test.{every}
 use Rattle.octets.proofs.Bools.{and_left, and_right}
 use Rattle.grid.proofs.RowLaws.{get_d_rows, and_then}
 use Rattle.line.specs.Line.{flagged, row_text}
@@ -51,12 +52,20 @@ pub row_is : (l : List ℕ) (r : ℕ) → r < 25 → row_at (rows_of l) r ≡ ro
 unfolding row_at
 row_is l r h = get_d_rows l r no_row h
 
--- ---- row_is_blank: n is the length of the row's text
+-- ---- row_is_blank: t is whether each of the characters is a space
 
-pub no_text : (cs : List ℕ) (n : ℕ) → n ≡ length cs → eqb n 0 ≡ is_empty cs
-unfolding is_empty
-no_text [] n e = rw e
-no_text (c ∷ cs) n e = ne_eqb n 0 (λ q. absurd (omega arith))
+empty_every : (p : ℕ → Bool) (cs : List ℕ) → is_empty (trim_by p cs) ≡ every p cs
+unfolding is_empty trim_by every
+empty_every p [] = refl
+empty_every p (c ∷ cs) = chosen (p c && is_empty (trim_by p cs)) ∙ ap (λ (b : Bool). p c && b) (empty_every p cs)
+  where
+    chosen : (b : Bool) → is_empty (if b then [] else c ∷ trim_by p cs) ≡ b
+    chosen true = refl
+    chosen false = refl
+
+pub only_spaces : (cs : List ℕ) (t : Bool) → t ≡ every is_space cs → t ≡ is_empty (trim cs)
+unfolding trim
+only_spaces cs t e = e ∙ sym (empty_every is_space cs)
 
 -- ---- next_row: e is what editable_rows has answered
 

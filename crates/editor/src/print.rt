@@ -12,6 +12,7 @@ use grid::layout::Record;
 use grid::row::{Blank, Row};
 use grid::screen::Screen;
 use grid::{head, row, valid};
+use octets::zero;
 use values::cursor::Cursor;
 
 // How far printing went: the pen that it hands on, and how many rows were scrolled on the way.
@@ -38,13 +39,13 @@ pub struct Run {
     pub scrolls: usize,
 }
 
-// Does the row hold only spaces, w of them?
-#[tactic(auto, using(crate::proofs::PrintLaws::no_text))]
+// Does the row hold only spaces, w of them? All are looked at: from its end on, a blank row is the slowest.
+#[tactic(auto, using(crate::proofs::PrintLaws::only_spaces), unfolding(grid::specs::Screen::is_space))]
 pub fn row_is_blank(row: &Row, w: usize) -> bool
     requires { w ≤ 80 }
     ensures { result ≡ is_empty (trim (take w row.now.chars)) }
 {
-    row.text_length(w) == 0
+    zero::all_pass(&row.chars()[..w], |c| c == b' ')
 }
 
 // To the next row's column 0, scrolling on the last editable row.
