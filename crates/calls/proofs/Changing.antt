@@ -26,7 +26,7 @@ use Rattle.editor.specs.Outcome.{change_tests, changing}
 use Rattle.editor.proofs.KeptCall.{apply_facts}
 use Rattle.editor.proofs.Refusals.{going}
 use Rattle.calls.specs.Answers.{Answers}
-use Rattle.calls.specs.Parts.{change_found, changed_from, moved_from, Tested, Plain, Prints}
+use Rattle.calls.specs.Parts.{change_found, changed_from, moved_from, moved_next, Tested, Plain, Prints}
 use Rattle.calls.proofs.RefusalLaws.{own_none, tests_found}
 
 module _ (c : Call) (long : Bool) (o : ℕ) (l : List ℕ) (t : Tested c long o l) where
@@ -84,8 +84,8 @@ module _ (c : Call) (long : Bool) (o : ℕ) (l : List ℕ) (t : Tested c long o 
           rows_done m left e = rw outcome_done (record { number = ev; left = rows_state m left e })
 
           -- work changed none
-          head_done : Moves (apply c s) s h → n ≡ moved_from (with_cr h cr) k → Answers (changing c l) v n
-          unfolding moved_from
+          head_done : Moves (apply c s) s h → n ≡ moved_next (with_cr h cr) k → Answers (changing c l) v n
+          unfolding moved_next moved_from
           head_done moves e =
               let f : Moves (apply c (screen_of l)) (screen_of l) h = rw (← its_screen) moves in
               let touched = sym (ap (touched_rows (rows_of l)) f.rows ∙ touched_none (rows_of l)) in
@@ -99,7 +99,7 @@ module _ (c : Call) (o cr : ℕ) (l : List ℕ) (plain : Plain c o cr l) (zero :
   pub changed_done : (m : List ℕ) → Leaves (apply c s) k m h → n ≡ changed_from k (with_cr h cr) m → Answers (changing c l) 0 n
   changed_done = rows_done c true o l plain.tested zero k s h same shows n cr plain.bit 0 (sym plain.answer)
 
-  pub moved_done : Moves (apply c s) s h → n ≡ moved_from (with_cr h cr) k → Answers (changing c l) 0 n
+  pub moved_done : Moves (apply c s) s h → n ≡ moved_next (with_cr h cr) k → Answers (changing c l) 0 n
   moved_done = head_done c true o l plain.tested zero k s h same shows n cr plain.bit 0 (sym plain.answer)
 
 -- ---- `printed`: the bytes bs were printed

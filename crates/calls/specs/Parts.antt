@@ -8,6 +8,7 @@ use Rattle.grid.specs.Screen.{Screen, touched_rows}
 use Rattle.grid.specs.Record.{rows_of, head_of, screen_of, pair_of, front_bytes}
 use Rattle.grid.specs.Refusals.{record_tests}
 use Rattle.grid.specs.declared.head.Head.{Head}
+use Rattle.grid.specs.declared.pair.Pair.{Pair}
 use Rattle.editor.specs.Call.{Call, PrintBytes, lengths, own, apply, answer, last_cr, cr_after}
 use Rattle.editor.specs.Outcome.{serial_tests}
 
@@ -38,6 +39,10 @@ pub record Prints (c : Call) (o : ℕ) (bs l : List ℕ) : Type 0 where
 unfoldable pub changed_from : List ℕ → Head → List ℕ → List ℕ
 changed_from old h l = front_bytes h (record { pair = next_pair (pair_of old); touched = touched_rows (rows_of old) (rows_of l) }) ++ drop FLAGS l
 
--- the same of a call that changes no row
-unfoldable pub moved_from : Head → List ℕ → List ℕ
-moved_from h l = front_bytes h (record { pair = next_pair (pair_of l); touched = 0 }) ++ drop FLAGS l
+-- the head h and the pair next, and no row touched
+unfoldable pub moved_from : Pair → Head → List ℕ → List ℕ
+moved_from next h l = front_bytes h (record { pair = next; touched = 0 }) ++ drop FLAGS l
+
+-- that of a call that changes no row: the next serial
+unfoldable pub moved_next : Head → List ℕ → List ℕ
+moved_next h l = moved_from (next_pair (pair_of l)) h l

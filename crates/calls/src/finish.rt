@@ -6,7 +6,7 @@ ghost use Rattle.grid.specs.Record.{head_of, pair_of, serial_of};
 ghost use Rattle.grid.specs.Facts.{HeadFits};
 ghost use Rattle.editor.specs.Call.{last_cr};
 ghost use Rattle.editor.specs.Outcome.{LAST-SERIAL};
-ghost use Rattle.calls.specs.Parts.{changed_from, moved_from};
+ghost use Rattle.calls.specs.Parts.{changed_from, moved_next};
 
 use editor::print;
 use grid::head;
@@ -60,10 +60,10 @@ pub fn finish_print(rec: &mut Record, old: &Record, h: Head, bytes: &[u8])
 }
 
 // The end of a call that changes no row: nothing is touched, and the bit is cleared.
-#[tactic(auto, using(crate::proofs::FinishLaws::bit_fits), unfolding(crate::specs::Parts::moved_from))]
+#[tactic(auto, using(crate::proofs::FinishLaws::bit_fits), unfolding(crate::specs::Parts::moved_from, crate::specs::Parts::moved_next))]
 pub fn finish_move(rec: &mut Record, h: Head)
     requires { HeadFits h × (serial_of rec.old ≡ LAST-SERIAL → ⊥) }
-    ensures { rec.new ≡ moved_from (with_cr h 0) rec.old }
+    ensures { rec.new ≡ moved_next (with_cr h 0) rec.old }
 {
     let stamp = Stamp {
         pair: next_pair(rec),

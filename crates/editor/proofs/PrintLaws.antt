@@ -52,7 +52,12 @@ pub row_is : (l : List ℕ) (r : ℕ) → r < 25 → row_at (rows_of l) r ≡ ro
 unfolding row_at
 row_is l r h = get_d_rows l r no_row h
 
--- ---- row_is_blank: t is whether each of the characters is a space
+-- ---- row_is_blank: n is the length of the row's text, t whether each of the characters is a space
+
+pub no_text : (cs : List ℕ) (n : ℕ) → n ≡ length cs → eqb n 0 ≡ is_empty cs
+unfolding is_empty
+no_text [] n e = rw e
+no_text (c ∷ cs) n e = ne_eqb n 0 (λ q. absurd (omega arith))
 
 empty_every : (p : ℕ → Bool) (cs : List ℕ) → is_empty (trim_by p cs) ≡ every p cs
 unfolding is_empty trim_by every

@@ -3,7 +3,7 @@
 use Prim.Native.Nat.{ℕ, ◌-◌, ◌≤◌, ◌<◌}
 use mathlib.Core.Path.{◌≡◌, refl}
 use mathlib.Core.Bool.{false}
-use mathlib.Core.List.{List, []}
+use mathlib.Core.List.{List, [], map}
 use mathlib.Core.Logic.{◌≢◌}
 use native.Mathlib.Omega.{arith}
 use lib.ListN.{length, get_or, take, drop, length-drop}
@@ -29,7 +29,24 @@ pub length_ten : length ten_keys ≡ 10
 unfolding ten_keys
 length_ten = refl
 
+-- a value for each key
+module _ {ℓ} {A : Type ℓ} (f : ℕ → A) where
+  each_is : map f ten_keys ≡ tabulate f 10
+  unfolding ten_keys tabulate
+  each_is = refl
+
+  each_at : (k : ℕ) (d : A) → k < 10 → get_or (map f ten_keys) k d ≡ f k
+  each_at k d h = rw each_is (get_d_tabulate f 10 k d h)
+
 module _ (t : List ℕ) where
+  pub macros_at : (k : ℕ) → k < 10 → get_or (macros_of t) k [] ≡ macro_at t k
+  unfolding macros_of
+  macros_at k h = each_at (macro_at t) k [] h
+
+  pub lengths_at : (k : ℕ) → k < 10 → get_or (lengths_of t) k 0 ≡ length_at t k
+  unfolding lengths_of
+  lengths_at k h = each_at (length_at t) k 0 h
+
   -- ---- `macros_of` and `lengths_of`, when all ten keys are read
 
   pub macros_end : (all : List (List ℕ)) → length all ≡ 10 → ((k : ℕ) → k < 10 → get_or all k [] ≡ macro_at t k) → all ≡ macros_of t
