@@ -39,10 +39,10 @@ pub record Prints (c : Call) (o : ℕ) (bs l : List ℕ) : Type 0 where
 unfoldable pub changed_from : List ℕ → Head → List ℕ → List ℕ
 changed_from old h l = front_bytes h (record { pair = next_pair (pair_of old); touched = touched_rows (rows_of old) (rows_of l) }) ++ drop FLAGS l
 
--- the head h and the pair next, and no row touched
+-- the head h, the pair next, which may be any, and no row touched
 unfoldable pub moved_from : Pair → Head → List ℕ → List ℕ
 moved_from next h l = front_bytes h (record { pair = next; touched = 0 }) ++ drop FLAGS l
 
--- that of a call that changes no row: the next serial
+-- the same with the next serial: what a call leaves that changes no row
 unfoldable pub moved_next : Head → List ℕ → List ℕ
 moved_next h l = moved_from (next_pair (pair_of l)) h l

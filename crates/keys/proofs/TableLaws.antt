@@ -1,15 +1,16 @@
 -- The key table: its test, and its macros and lengths as they are read out of it.
 -- Assumes nothing.
 use Prim.Native.Nat.{ℕ, ◌-◌, ◌≤◌, ◌<◌}
-use mathlib.Core.Path.{◌≡◌, refl}
+use mathlib.Core.Path.{◌≡◌, refl, ap, ◌∙◌}
 use mathlib.Core.Bool.{false}
-use mathlib.Core.List.{List, [], map}
+use mathlib.Core.List.{List, []}
 use mathlib.Core.Logic.{◌≢◌}
 use native.Mathlib.Omega.{arith}
 use lib.ListN.{length, get_or, take, drop, length-drop}
 use lib.Seq.{take_all}
 use borrow.Author.Tests.{le-leb, lt-leb, eq-eqb, ne_eqb}
 use Rattle.std.specs.List.{list_all, range_with_len}
+use Rattle.std.proofs.lemmas.List.{get_or-map}
 use Rattle.std.proofs.lemmas.List.FromFn.{fill_by_all}
 use Rattle.octets.specs.Test.{every, zerob}
 use Rattle.octets.specs.Table.{tabulate}
@@ -29,23 +30,14 @@ pub length_ten : length ten_keys ≡ 10
 unfolding ten_keys
 length_ten = refl
 
--- a value for each key
-module _ {ℓ} {A : Type ℓ} (f : ℕ → A) where
-  each_is : map f ten_keys ≡ tabulate f 10
-  unfolding ten_keys tabulate
-  each_is = refl
-
-  each_at : (k : ℕ) (d : A) → k < 10 → get_or (map f ten_keys) k d ≡ f k
-  each_at k d h = rw each_is (get_d_tabulate f 10 k d h)
-
 module _ (t : List ℕ) where
   pub macros_at : (k : ℕ) → k < 10 → get_or (macros_of t) k [] ≡ macro_at t k
   unfolding macros_of
-  macros_at k h = each_at (macro_at t) k [] h
+  macros_at k h = get_or-map (macro_at t) ten_keys k 0 [] (omega (arith, length_ten)) ∙ ap (macro_at t) (ten_at k h)
 
   pub lengths_at : (k : ℕ) → k < 10 → get_or (lengths_of t) k 0 ≡ length_at t k
   unfolding lengths_of
-  lengths_at k h = each_at (length_at t) k 0 h
+  lengths_at k h = get_or-map (length_at t) ten_keys k 0 0 (omega (arith, length_ten)) ∙ ap (length_at t) (ten_at k h)
 
   -- ---- `macros_of` and `lengths_of`, when all ten keys are read
 
